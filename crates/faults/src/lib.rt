@@ -1,0 +1,12 @@
+// Why a table is refused. Every fault has a number, a layer and a place, and an upper layer's fault holds a lower one's whole.
+mod graph;
+mod layer;
+mod load;
+mod record;
+mod table;
+
+pub use graph::GraphFault;
+pub use layer::Layer;
+pub use load::LoadFault;
+pub use record::RecordFault;
+pub use table::TableFault;
