@@ -1,16 +1,17 @@
-// Words as sets of numbers.
-ghost use mathlib.Core.Path.{_≡_};
-ghost use Rattle.sets.specs.Members.{member};
+// Sets of small numbers, each held in one word: bit n is 1 where n is a member.
+//
+// Every method is defined for every argument. A number past the width of the word is no member of
+// any set: asking for it answers no, and adding or taking it changes nothing.
+mod paths;
+mod routers;
 
-// A set of exit paths: bit n for path n.
-#[derive(Clone, Copy, PartialEq, Eq, Debug)]
-pub struct PathSet(u64);
-
-impl PathSet {
-    // Whether `n` is a member; no number past 63 is.
-    pub fn contains(self, n: u32) -> bool
-        ensures { λ r. ⌜ r ≡ member (self .0) n ⌝ }
-    {
-        n < 64 && self.0 >> n & 1 == 1
-    }
-}
+pub use paths::PathSet;
+pub use paths::PathSetDebug;
+pub use paths::PathSetDefault;
+pub use paths::PathSetEq;
+pub use paths::PathSetPartialEq;
+pub use routers::RouterSet;
+pub use routers::RouterSetDebug;
+pub use routers::RouterSetDefault;
+pub use routers::RouterSetEq;
+pub use routers::RouterSetPartialEq;

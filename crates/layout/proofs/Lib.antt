@@ -1,0 +1,7 @@
+pub mod Numbers
+pub mod Pairs
+pub mod Checks
+pub mod Records
+pub mod Adding
+pub mod Firsts
+pub mod Chains

@@ -1,0 +1,9 @@
+pub mod Table
+pub mod Encoding
+pub mod WellFormed
+pub mod Bodies
+pub mod Rules
+pub mod Checks
+pub mod Graph
+pub mod Reading
+pub mod Promise

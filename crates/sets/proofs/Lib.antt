@@ -1,0 +1,10 @@
+pub mod Digits
+pub mod Operations
+pub mod Same
+pub mod Emptiness
+pub mod Single
+pub mod Shifted
+pub mod Subsets
+pub mod Smallest
+pub mod Counting
+pub mod Laws
