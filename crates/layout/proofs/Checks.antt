@@ -37,7 +37,7 @@ decides-pair t link-kind body = decides-wrong _ _
 decides-pair t session-kind body = decides-wrong _ _
 decides-pair t path-kind body = never
 
-a-client : (c : ℕ) (role : Role) → is-client role ≡ true → _≡_ {A = Router} (record { cluster = c; role = role }) (client c)
+pub a-client : (c : ℕ) (role : Role) → is-client role ≡ true → _≡_ {A = Router} (record { cluster = c; role = role }) (client c)
 a-client c Client e = refl
 a-client c Reflector e = absurd (false≢true e)
 

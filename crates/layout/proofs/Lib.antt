@@ -5,3 +5,11 @@ pub mod Records
 pub mod Adding
 pub mod Firsts
 pub mod Chains
+pub mod Whole
+pub mod KindBytes
+pub mod Verdicts
+pub mod Lengths
+pub mod Tells
+pub mod Steps
+pub mod Accepts
+pub mod Promised
