@@ -64,10 +64,10 @@ labelled-none = record {
   keeps = λ v w hv hw h. absurd (no-link v w h);
 }
 
-hit : (old new x : ℕ) → x ≡ old → relabelled old new x ≡ new
+pub hit : (old new x : ℕ) → x ≡ old → relabelled old new x ≡ new
 hit old new x e = cond-true (eqb x old) new x (eq-eqb x old e)
 
-miss : (old new x : ℕ) → (x ≡ old → ⊥) → relabelled old new x ≡ x
+pub miss : (old new x : ℕ) → (x ≡ old → ⊥) → relabelled old new x ≡ x
 miss old new x ne = cond-false (eqb x old) new x (ne-eqb x old ne)
 
 -- the new label stays

@@ -13,3 +13,4 @@ pub mod Tells
 pub mod Steps
 pub mod Accepts
 pub mod Promised
+pub mod Loops

@@ -1,3 +1,6 @@
+ghost use mathlib.Core.Path.{_≡_};
+ghost use Rattle.layout.specs.Checks.{is-client};
+
 // What a router is in its cluster.
 #[derive(Clone, Copy, PartialEq, Eq, Debug)]
 pub enum Role {
@@ -10,4 +13,15 @@ pub enum Role {
 pub struct Router {
     pub cluster: u8,
     pub role: Role,
+}
+
+impl Role {
+    pub fn is_client(self) -> bool
+        ensures { λ r. ⌜ r ≡ is-client self ⌝ }
+    {
+        match self {
+            Role::Client => true,
+            Role::Reflector => false,
+        }
+    }
 }

@@ -1,8 +1,7 @@
 ghost use mathlib.Core.Path.{_≡_};
 ghost use mathlib.Core.List.{[], _∷_, _++_};
 ghost use mathlib.Core.Bool.{cond};
-ghost use Prim.Native.Nat.{_≤_};
-ghost use lib.Dec.{ltb};
+ghost use lib.Dec.{leb, ltb};
 ghost use lib.ListN.{length};
 ghost use Rattle.arrays.specs.Items.{listed};
 use crate::array_vec::ArrayVec;
@@ -23,6 +22,13 @@ impl<T: Copy, const N: usize> ArrayVec<T, N> {
         ensures { λ r. ⌜ r ≡ length (listed (now (self .entry))) ⌝ }
     {
         self.len
+    }
+
+    // Whether there are `N` already.
+    pub fn is_full(&self) -> bool
+        ensures { λ r. ⌜ r ≡ leb N (length (listed (now (self .entry)))) ⌝ }
+    {
+        self.len >= N
     }
 
     // Adds `x` at the end; false, and nothing changes, where there are `N` already.

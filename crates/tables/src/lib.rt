@@ -1,0 +1,7 @@
+// Records to a checked table.
+mod bytes;
+mod graph;
+
+mod lists;
+mod pairs;
+
