@@ -14,3 +14,4 @@ pub mod Steps
 pub mod Accepts
 pub mod Promised
 pub mod Loops
+pub mod Progress

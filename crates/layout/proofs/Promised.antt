@@ -14,7 +14,7 @@ use Rattle.layout.proofs.Accepts.{table-accepted}
 use Rattle.layout.proofs.Records.{Bytes}
 use Rattle.layout.proofs.Tells.{Tells, told}
 
-nothing-sound : Sound nothing
+pub nothing-sound : Sound nothing
 nothing-sound = record {
   few-routers = omega arith;
   few-links = omega arith;

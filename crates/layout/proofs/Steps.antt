@@ -25,7 +25,7 @@ read-skip zero t before place bs h = refl
 read-skip (suc n) t before place [] h = absurd (omega arith)
 read-skip (suc n) t before place (b ∷ bs) h = read-skip n t before place bs (omega arith)
 
-ended-not-found : (p : ℕ) (k : Kind) (body : List ℕ) → ended ≡ found p k body → ⊥
+pub ended-not-found : (p : ℕ) (k : Kind) (body : List ℕ) → ended ≡ found p k body → ⊥
 ended-not-found p k body e = let z : _≡_ {A = ℕ} 0 1 = cc in omega arith
 
 ended-not-refused : (fault : RecordFault) → ended ≡ refused fault → ⊥

@@ -72,7 +72,7 @@ module _ (bs : List ℕ) where
     near = omega (arith, encoded-near t (f .sound), f .at-place)
 
     -- the front one record on
-    front-on : (p : ℕ) (k : Kind) (body : List ℕ) → Found before place b more p k body → Good t k body → Front (adding t k body) (kind-byte k) (place + 1 + body-length k) (body-length k) more
+    pub front-on : (p : ℕ) (k : Kind) (body : List ℕ) → Found before place b more p k body → Good t k body → Front (adding t k body) (kind-byte k) (place + 1 + body-length k) (body-length k) more
     front-on p k body found-there good =
         let a = added t k body (f .sound) good in
         let rest : (kind-byte k ∷ body) ++ drop (body-length k) more ≡ b ∷ more = (λ i. sym (kind-is b k (found-there .kind)) i ∷ (ap (λ l. l ++ drop (body-length k) more) (found-there .cut) ∙ take-append-drop (body-length k) more) i) in

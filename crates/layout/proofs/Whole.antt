@@ -156,3 +156,24 @@ whole-accepts t w =
     let all-led = first-none (unled (t .routers)) 0 (t .routers) (led-passes (t .routers) (w .led)) in
     let all-joined = first-none (cut-off (labels (t .links))) 0 (take (length (t .routers)) (labels (t .links))) (λ v d lt. let within : v < length (t .routers) = omega (arith, row-length t (w .sound)) in chain-passes t (w .sound) v d within (w .connected v within)) in
     cond-false _ _ _ none ∙ ap (λ o. graph-check t o (first-where (cut-off (labels (t .links))) 0 (take (length (t .routers)) (labels (t .links))))) all-led ∙ ap (λ q. graph-check t None q) all-joined
+
+-- what the answers of the single checks come to
+module _ (t : Declared) (s : Sound t) where
+  pub all-labellable : All Labellable (t .links)
+  all-labellable = fits t s
+
+  some-below : {X : Type 0} (p : X → Bool) (xs : List X) (v : ℕ) → length xs ≤ 32 → Some v ≡ first-where p 0 xs → v < 32
+  some-below p xs v few e =
+      let f : First p 0 xs (Some v) = subst (First p 0 xs) (sym e) (first p 0 xs) in
+      omega (arith, f .1, f .2)
+
+  pub unled-below : (v : ℕ) → Some v ≡ first-where (unled (t .routers)) 0 (t .routers) → v < 32
+  unled-below v e = some-below (unled (t .routers)) (t .routers) v (s .few-routers) e
+
+  pub cut-off-below : (v : ℕ) → Some v ≡ first-where (cut-off (labels (t .links))) 0 (take (length (t .routers)) (labels (t .links))) → v < 32
+  cut-off-below v e = some-below (cut-off (labels (t .links))) (take (length (t .routers)) (labels (t .links))) v (omega (arith, row-length t s, s .few-routers)) e
+
+  pub well-formed : 1 ≤ length (t .routers) → None ≡ first-where (unled (t .routers)) 0 (t .routers) → None ≡ first-where (cut-off (labels (t .links))) 0 (take (length (t .routers)) (labels (t .links))) → WellFormed t
+  well-formed some e f =
+      graph-tells t s some None None (subst (First (unled (t .routers)) 0 (t .routers)) (sym e) (first (unled (t .routers)) 0 (t .routers)))
+      (subst (First (cut-off (labels (t .links))) 0 (take (length (t .routers)) (labels (t .links)))) (sym f) (first (cut-off (labels (t .links))) 0 (take (length (t .routers)) (labels (t .links))))) .1

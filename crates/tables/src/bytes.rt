@@ -2,7 +2,6 @@ ghost use mathlib.Core.Path.{_≡_};
 ghost use Prim.Native.Nat.{_+_, _<_};
 ghost use lib.ListN.{length};
 ghost use Rattle.layout.specs.Bodies.{two, four};
-ghost use Rattle.std.specs.shelf.Lists.{All};
 
 // The number in the two bytes from `at` on, the higher byte first.
 pub(crate) fn two_bytes(body: &[u8], at: usize) -> u16
@@ -18,13 +17,4 @@ pub(crate) fn four_bytes(body: &[u8], at: usize) -> u32
     ensures { λ r. ⌜ r ≡ four (now (body .entry)) at ⌝ }
 {
     u32::from_be_bytes([body[at], body[at + 1], body[at + 2], body[at + 3]])
-}
-
-// Every byte is below 256: for the proof of its caller. Nothing of it is left in compiled code.
-pub(crate) fn are_bytes(bytes: &[u8])
-    ensures { λ _. ⌜ All (λ b. b < 256) (now (bytes .entry)) ⌝ }
-{
-    for b in bytes {
-        let _byte = *b;
-    }
 }
