@@ -1,1 +1,2 @@
 mod Answered
+mod Exits

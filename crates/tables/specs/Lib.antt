@@ -1,2 +1,3 @@
 pub mod Held
 pub mod Accepted
+pub mod Exits

@@ -1,4 +1,6 @@
 ghost use mathlib.Core.Path.{_≡_};
+ghost use Prim.Native.Nat.{_≤_};
+ghost use lib.ListN.{length};
 ghost use Rattle.tables.specs.Accepted.{declared};
 use crate::table::Table;
 use layout::ExitPath;
@@ -9,28 +11,32 @@ use layout::Session;
 impl Table {
     // The routers, in the order of their numbers.
     pub fn routers(&self) -> &[Router]
-        ensures { λ r. ⌜ now r ≡ declared (now (self .entry)) .routers ⌝ }
+        ensures value { λ r. ⌜ now r ≡ declared (now (self .entry)) .routers ⌝ }
+        ensures few { λ r. ⌜ length (now r) ≤ 32 ⌝ }
     {
         self.lists.routers.as_slice()
     }
 
     // The links, as they come.
     pub fn links(&self) -> &[Link]
-        ensures { λ r. ⌜ now r ≡ declared (now (self .entry)) .links ⌝ }
+        ensures value { λ r. ⌜ now r ≡ declared (now (self .entry)) .links ⌝ }
+        ensures few { λ r. ⌜ length (now r) ≤ 128 ⌝ }
     {
         self.lists.links.as_slice()
     }
 
     // The client sessions, as they come.
     pub fn sessions(&self) -> &[Session]
-        ensures { λ r. ⌜ now r ≡ declared (now (self .entry)) .sessions ⌝ }
+        ensures value { λ r. ⌜ now r ≡ declared (now (self .entry)) .sessions ⌝ }
+        ensures few { λ r. ⌜ length (now r) ≤ 64 ⌝ }
     {
         self.lists.sessions.as_slice()
     }
 
     // The exit paths, in the order of their numbers.
     pub fn paths(&self) -> &[ExitPath]
-        ensures { λ r. ⌜ now r ≡ declared (now (self .entry)) .paths ⌝ }
+        ensures value { λ r. ⌜ now r ≡ declared (now (self .entry)) .paths ⌝ }
+        ensures few { λ r. ⌜ length (now r) ≤ 64 ⌝ }
     {
         self.lists.paths.as_slice()
     }
