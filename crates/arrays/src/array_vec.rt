@@ -1,6 +1,7 @@
 ghost use mathlib.Core.Path.{_≡_};
 ghost use Prim.Native.Nat.{_≤_};
 ghost use lib.ListN.{length};
+
 mod methods;
 
 // At most `N` values in order, the first `len` of the array; what lies past them is of no account.

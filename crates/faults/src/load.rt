@@ -1,13 +1,13 @@
 ghost use mathlib.Core.Path.{_≡_};
 ghost use Rattle.faults.specs.Faults.{number-of, layer-of, place-of};
 use crate::graph::GraphFault;
-use crate::layer::Layer;
-use crate::record::RecordFault;
-use crate::table::TableFault;
 use crate::graph::GraphFaultDebug;
 use crate::graph::GraphFaultPartialEq;
+use crate::layer::Layer;
+use crate::record::RecordFault;
 use crate::record::RecordFaultDebug;
 use crate::record::RecordFaultPartialEq;
+use crate::table::TableFault;
 use crate::table::TableFaultDebug;
 use crate::table::TableFaultPartialEq;
 

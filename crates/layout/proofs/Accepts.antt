@@ -44,20 +44,19 @@ false-from r d h = ⊎-elim (λ e. absurd (h (d .0 e))) (λ e. e) (cases-bool r)
 pub reads-record : (t : Declared) (k : Kind) (body : List ℕ) (before place : ℕ) (rest : List ℕ) → before ≤ kind-byte k → length body ≡ body-length k → count t k < most k → (OutOfRange t k body → ⊥) → (BadPair t k body → ⊥) → (BadSession t k body → ⊥) → read-from zero t before place (kind-byte k ∷ (body ++ rest)) ≡ read-from zero (adding t k body) (kind-byte k) (place + 1 + body-length k) rest
 reads-record t k body before place rest rises long room range pair session =
     let passes : declaring t place k body ≡ Ok (adding t k body) =
-      cond-false _ _ _ (lt-leb _ _ room) ∙ cond-false _ _ _ (false-from _ (decides-range t k body) range) ∙ cond-false _ _ _ (false-from _ (decides-pair t k body) pair) ∙ cond-false _ _ _ (false-from _ (decides-session t k body) session) in
+    cond-false _ _ _ (lt-leb _ _ room) ∙ cond-false _ _ _ (false-from _ (decides-range t k body) range) ∙ cond-false _ _ _ (false-from _ (decides-pair t k body) pair) ∙ cond-false _ _ _ (false-from _ (decides-session t k body) session) in
     let behind : length (kind-byte k ∷ body) ≡ 1 + body-length k = omega (arith, long) in
     read-on t before place place k body (kind-byte k ∷ (body ++ rest)) (adding t k body) (reading-whole before place k body rest long rises) passes
     ∙ ap (read-from zero (adding t k body) (kind-byte k) (place + 1 + body-length k)) (drop-at (kind-byte k ∷ body) rest (1 + body-length k) behind)
 
 -- records of one kind, one after another: W holds of the whole list, `step` reads one record
 module _ {X : Type 0} (bytes : X → List ℕ) (put : List X → Declared) (k : Kind) (W : List X → Type 0)
-  (step : (done : List X) (x : X) (todo : List X) (before place : ℕ) (rest : List ℕ) → W (done ++ x ∷ todo) → before ≤ kind-byte k → read-from zero (put done) before place (bytes x ++ rest) ≡ read-from zero (put (done ++ x ∷ [])) (kind-byte k) (place + 1 + body-length k) rest) where
+    (step : (done : List X) (x : X) (todo : List X) (before place : ℕ) (rest : List ℕ) → W (done ++ x ∷ todo) → before ≤ kind-byte k → read-from zero (put done) before place (bytes x ++ rest) ≡ read-from zero (put (done ++ x ∷ [])) (kind-byte k) (place + 1 + body-length k) rest) where
   reads-all : (todo done : List X) (before place : ℕ) (rest : List ℕ) → W (done ++ todo) → before ≤ kind-byte k → (b : ℕ) × (p : ℕ) × (b ≤ kind-byte k) × (read-from zero (put done) before place (joined bytes todo ++ rest) ≡ read-from zero (put (done ++ todo)) b p rest)
   reads-all [] done before place rest w rises = (before, place, rises, ap (λ l. read-from zero (put l) before place rest) (sym (append-nil done)))
   reads-all (x ∷ todo) done before place rest w rises =
       let one = step done x todo before place (joined bytes todo ++ rest) w rises in
-      let more = reads-all todo (done ++ x ∷ []) (kind-byte k) (place + 1 + body-length k) rest (subst W (sym (append-assoc done (x ∷ []) todo)) w) (omega arith) in
-      (
+      let more = reads-all todo (done ++ x ∷ []) (kind-byte k) (place + 1 + body-length k) rest (subst W (sym (append-assoc done (x ∷ []) todo)) w) (omega arith) in (
         more .0,
         more .1,
         more .2,

@@ -120,9 +120,9 @@ module _ (t : Declared) (body : List ℕ) (s : Sound t) where
           paths-fit = subst (All (PathFits (length (t .routers ++ router-in body ∷ [])))) (sym (no-paths .0)) tt;
         };
         bytes =
-          ap (λ l. l ++ (LB ++ (SB ++ PB))) (joined-push router-bytes (t .routers) (router-in body))
-          ∙ past-empty RB (router-bytes (router-in body)) (LB ++ (SB ++ PB)) tail
-          ∙ ap (λ l. (RB ++ (LB ++ (SB ++ PB))) ++ l) (router-bytes-in body (g .bytes) (g .long) role);
+            ap (λ l. l ++ (LB ++ (SB ++ PB))) (joined-push router-bytes (t .routers) (router-in body))
+            ∙ past-empty RB (router-bytes (router-in body)) (LB ++ (SB ++ PB)) tail
+            ∙ ap (λ l. (RB ++ (LB ++ (SB ++ PB))) ++ l) (router-bytes-in body (g .bytes) (g .long) role);
         last = top-empty (t .paths) 4 _ (no-paths .0) ∙ top-empty (t .sessions) 3 _ (no-sessions .0) ∙ top-empty (t .links) 2 _ (no-links .0) ∙ top-push (t .routers) (router-in body) 1 0;
       }
 
@@ -147,10 +147,10 @@ module _ (t : Declared) (body : List ℕ) (s : Sound t) where
           paths-fit = s .paths-fit;
         };
         bytes =
-          ap (λ l. RB ++ (l ++ (SB ++ PB))) (joined-push link-bytes (t .links) (link-in body))
-          ∙ ap (λ l. RB ++ l) (past-empty LB (link-bytes (link-in body)) (SB ++ PB) tail)
-          ∙ sym (append-assoc RB (LB ++ (SB ++ PB)) (link-bytes (link-in body)))
-          ∙ ap (λ l. (RB ++ (LB ++ (SB ++ PB))) ++ l) (link-bytes-in body (g .bytes) (g .long));
+            ap (λ l. RB ++ (l ++ (SB ++ PB))) (joined-push link-bytes (t .links) (link-in body))
+            ∙ ap (λ l. RB ++ l) (past-empty LB (link-bytes (link-in body)) (SB ++ PB) tail)
+            ∙ sym (append-assoc RB (LB ++ (SB ++ PB)) (link-bytes (link-in body)))
+            ∙ ap (λ l. (RB ++ (LB ++ (SB ++ PB))) ++ l) (link-bytes-in body (g .bytes) (g .long));
         last = top-empty (t .paths) 4 _ (no-paths .0) ∙ top-empty (t .sessions) 3 _ (no-sessions .0) ∙ top-push (t .links) (link-in body) 2 _;
       }
 
@@ -172,11 +172,11 @@ module _ (t : Declared) (body : List ℕ) (s : Sound t) where
           paths-fit = s .paths-fit;
         };
         bytes =
-          ap (λ l. RB ++ (LB ++ (l ++ PB))) (joined-push session-bytes (t .sessions) (session-in body))
-          ∙ ap (λ l. RB ++ (LB ++ l)) (past-empty SB (session-bytes (session-in body)) PB (joined-empty path-bytes _ (no-paths .0)))
-          ∙ ap (λ l. RB ++ l) (sym (append-assoc LB (SB ++ PB) (session-bytes (session-in body))))
-          ∙ sym (append-assoc RB (LB ++ (SB ++ PB)) (session-bytes (session-in body)))
-          ∙ ap (λ l. (RB ++ (LB ++ (SB ++ PB))) ++ l) (session-bytes-in body (g .bytes) (g .long));
+            ap (λ l. RB ++ (LB ++ (l ++ PB))) (joined-push session-bytes (t .sessions) (session-in body))
+            ∙ ap (λ l. RB ++ (LB ++ l)) (past-empty SB (session-bytes (session-in body)) PB (joined-empty path-bytes _ (no-paths .0)))
+            ∙ ap (λ l. RB ++ l) (sym (append-assoc LB (SB ++ PB) (session-bytes (session-in body))))
+            ∙ sym (append-assoc RB (LB ++ (SB ++ PB)) (session-bytes (session-in body)))
+            ∙ ap (λ l. (RB ++ (LB ++ (SB ++ PB))) ++ l) (session-bytes-in body (g .bytes) (g .long));
         last = top-empty (t .paths) 4 _ (no-paths .0) ∙ top-push (t .sessions) (session-in body) 3 _;
       }
 
@@ -206,11 +206,11 @@ module _ (t : Declared) (body : List ℕ) (s : Sound t) where
           });
         };
         bytes =
-          ap (λ l. RB ++ (LB ++ (SB ++ l))) (joined-push path-bytes (t .paths) (path-in body))
-          ∙ ap (λ l. RB ++ (LB ++ l)) (sym (append-assoc SB PB (path-bytes (path-in body))))
-          ∙ ap (λ l. RB ++ l) (sym (append-assoc LB (SB ++ PB) (path-bytes (path-in body))))
-          ∙ sym (append-assoc RB (LB ++ (SB ++ PB)) (path-bytes (path-in body)))
-          ∙ ap (λ l. (RB ++ (LB ++ (SB ++ PB))) ++ l) (path-bytes-in body (g .bytes) (g .long));
+            ap (λ l. RB ++ (LB ++ (SB ++ l))) (joined-push path-bytes (t .paths) (path-in body))
+            ∙ ap (λ l. RB ++ (LB ++ l)) (sym (append-assoc SB PB (path-bytes (path-in body))))
+            ∙ ap (λ l. RB ++ l) (sym (append-assoc LB (SB ++ PB) (path-bytes (path-in body))))
+            ∙ sym (append-assoc RB (LB ++ (SB ++ PB)) (path-bytes (path-in body)))
+            ∙ ap (λ l. (RB ++ (LB ++ (SB ++ PB))) ++ l) (path-bytes-in body (g .bytes) (g .long));
         last = top-push (t .paths) (path-in body) 4 _;
       }
 

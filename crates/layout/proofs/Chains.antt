@@ -94,13 +94,13 @@ module _ (links : List Link) (ls : List ℕ) (l : Link) (told : Labelled links l
   one-label v w hv hw e =
       ⊎-elim
       (λ hv-old. ⊎-elim
-        (λ hw-old. chain-more l (told .tells v w hv hw (hv-old ∙ sym hw-old)))
-        (λ hw-not. across v w hv hw hv-old (sym (hit old new _ hv-old) ∙ e ∙ miss old new _ hw-not))
-        (cases-eq (label ls w) old))
+      (λ hw-old. chain-more l (told .tells v w hv hw (hv-old ∙ sym hw-old)))
+      (λ hw-not. across v w hv hw hv-old (sym (hit old new _ hv-old) ∙ e ∙ miss old new _ hw-not))
+      (cases-eq (label ls w) old))
       (λ hv-not. ⊎-elim
-        (λ hw-old. chain-back (across w v hw hv hw-old (sym (hit old new _ hw-old) ∙ sym e ∙ miss old new _ hv-not)))
-        (λ hw-not. chain-more l (told .tells v w hv hw (sym (miss old new _ hv-not) ∙ e ∙ miss old new _ hw-not)))
-        (cases-eq (label ls w) old))
+      (λ hw-old. chain-back (across w v hw hv hw-old (sym (hit old new _ hw-old) ∙ sym e ∙ miss old new _ hv-not)))
+      (λ hw-not. chain-more l (told .tells v w hv hw (sym (miss old new _ hv-not) ∙ e ∙ miss old new _ hw-not)))
+      (cases-eq (label ls w) old))
       (cases-eq (label ls v) old)
 
   both-ends : (v w : ℕ) → Same (l .ends) (record { a = v; b = w }) → relabelled old new (label ls v) ≡ relabelled old new (label ls w)

@@ -54,8 +54,7 @@ decides-clients routers p = (
       let u = and-parts (ltb (p .b) (length routers)) _ (s .1) in
       let v = and-parts (is-client (x .role)) _ (u .1) in
       let w = and-parts (is-client (y .role)) _ (v .1) in
-      let same : y .cluster ≡ x .cluster = sym (eqb-true _ _ (w .1)) in
-      (
+      let same : y .cluster ≡ x .cluster = sym (eqb-true _ _ (w .1)) in (
         x .cluster,
         is-from routers (p .a) (client 0) _ (ltb-true _ _ (s .0)) (a-client _ _ (v .0)),
         is-from routers (p .b) (client 0) _ (ltb-true _ _ (u .0)) (a-client _ _ (w .0) ∙ ap client same),

@@ -36,12 +36,12 @@ pub kind-cases : (b : ℕ) → ((k : Kind) × (b ≡ kind-byte k)) ⊎ ((b ≡ 0
 kind-cases b =
     ⊎-elim (λ e. inl (Router, e))
     (λ one. ⊎-elim (λ e. inl (Link, e))
-      (λ two. ⊎-elim (λ e. inl (Session, e))
-        (λ three. ⊎-elim (λ e. inl (Path, e))
-          (λ four. inr (⊎-elim (λ e. inl e) (λ z. inr (omega arith)) (cases-eq b 0)))
-          (cases-eq b 4))
-        (cases-eq b 3))
-      (cases-eq b 2))
+    (λ two. ⊎-elim (λ e. inl (Session, e))
+    (λ three. ⊎-elim (λ e. inl (Path, e))
+    (λ four. inr (⊎-elim (λ e. inl e) (λ z. inr (omega arith)) (cases-eq b 0)))
+    (cases-eq b 4))
+    (cases-eq b 3))
+    (cases-eq b 2))
     (cases-eq b 1)
 
 some-not-none : (k : Kind) → _≡_ {A = Option Kind} (Some k) None → ⊥
@@ -85,9 +85,9 @@ read-kind before place b more (Some k) e =
     ⊎-elim
     (λ short. subst (Read before place b more) (sym (cond-true _ _ _ short)) (refl, k, e, ltb-true _ _ short))
     (λ long. subst (Read before place b more) (sym (cond-false _ _ _ long)) (⊎-elim
-      (λ falls. subst (Read before place b more) (sym (cond-true _ _ _ falls)) (refl, k, e, ltb-false _ _ long, ltb-true _ _ falls))
-      (λ rises. subst (Read before place b more) (sym (cond-false _ _ _ rises)) (record { at-place = refl; kind = e; whole = ltb-false _ _ long; rises = ltb-false _ _ rises; cut = refl }))
-      (cases-bool (ltb (kind-byte k) before))))
+    (λ falls. subst (Read before place b more) (sym (cond-true _ _ _ falls)) (refl, k, e, ltb-false _ _ long, ltb-true _ _ falls))
+    (λ rises. subst (Read before place b more) (sym (cond-false _ _ _ rises)) (record { at-place = refl; kind = e; whole = ltb-false _ _ long; rises = ltb-false _ _ rises; cut = refl }))
+    (cases-bool (ltb (kind-byte k) before))))
     (cases-bool (ltb (length more) (body-length k)))
 
 pub read : (before place b : ℕ) (more : List ℕ) → Read before place b more (reading-at before place (b ∷ more))

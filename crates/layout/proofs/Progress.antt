@@ -82,7 +82,7 @@ module _ (bs : List ℕ) (t : Declared) (s : Standing) (h : Progress bs t s) whe
     goes-on u e =
         let f = found-in (s .before) (s .place) (s .rest) p k body (sym there) in
         let next : Front bs u (kind-byte k) (s .place + 1 + body-length k) 0 (drop (1 + body-length k) (s .rest)) =
-          subst (λ rest. Front bs u (kind-byte k) (s .place + 1 + body-length k) 0 (drop (1 + body-length k) rest)) (sym (f .2)) (front-behind (f .0) (f .1) (subst (Front bs t (s .before) (s .place) 0) (f .2) (h .front)) (f .3) u e) in
+        subst (λ rest. Front bs u (kind-byte k) (s .place + 1 + body-length k) 0 (drop (1 + body-length k) rest)) (sym (f .2)) (front-behind (f .0) (f .1) (subst (Front bs t (s .before) (s .place) 0) (f .2) (h .front)) (f .3) u e) in
         let on = sym (read-on t (s .before) (s .place) p k body (s .rest) u (sym there) (sym e)) ∙ h .same in
         record {
           front = subst (λ q. Front bs u (kind-byte k) (q + 1 + body-length k) 0 (drop (1 + body-length k) (s .rest))) at-place next;

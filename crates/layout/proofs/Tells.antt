@@ -99,8 +99,7 @@ module _ (bs : List ℕ) where
         let bytes : Bytes body = subst Bytes (sym (h .cut)) (all-take (λ x. x < 256) (body-length k) more (f .bytes .1)) in
         declared-told p k body h bytes (declaring t p k body) (declaring-tells t b more before place (f .follows) p k body h bytes)
     record-told (refused fault) h =
-        let v = refused-lowest t b more before place (f .follows) fault h in
-        (
+        let v = refused-lowest t b more before place (f .follows) fault h in (
           record { before = t; kind = b; more = more; sound = f .sound; split = f .split; place = v .0 ∙ f .at-place; smallest = v .1 },
           omega (arith, v .0, near),
         )

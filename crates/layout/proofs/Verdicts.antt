@@ -123,43 +123,58 @@ module _ (t : Declared) (b : ℕ) (more : List ℕ) where
       pub declaring-tells : DeclaringTells (declaring t p k body)
       declaring-tells =
           ⊎-elim
-          (λ full. subst DeclaringTells (sym (cond-true _ _ _ full)) (f .at-place, (
-            too-many (holds (λ j _. most j ≤ count t j) (leb-true _ _ full)),
-            none-below 4 (record { one = λ lt. kept-one; two = λ lt. kept-two; three = λ lt. kept-three; four = λ lt r. omega arith; five = λ lt r. omega arith; six = λ lt r. omega arith; seven = λ lt r. omega arith }),
-          )))
+          (λ full. subst DeclaringTells (sym (cond-true _ _ _ full)) (
+            f .at-place,
+            (
+              too-many (holds (λ j _. most j ≤ count t j) (leb-true _ _ full)),
+              none-below 4 (record { one = λ lt. kept-one; two = λ lt. kept-two; three = λ lt. kept-three; four = λ lt r. omega arith; five = λ lt r. omega arith; six = λ lt r. omega arith; seven = λ lt r. omega arith }),
+            ),
+          ))
           (λ roomy.
-              let four = keeps (λ j _. most j ≤ count t j) (λ h. omega (arith, leb-false (most k) (count t k) roomy)) in
-              subst DeclaringTells (sym (cond-false _ _ _ roomy)) (⊎-elim
-              (λ off. subst DeclaringTells (sym (cond-true _ _ _ off)) (f .at-place, (
-                breaks-range (holds (OutOfRange t) (decides-range t k body .0 off)),
-                none-below 5 (record { one = λ lt. kept-one; two = λ lt. kept-two; three = λ lt. kept-three; four = λ lt. four; five = λ lt r. omega arith; six = λ lt r. omega arith; seven = λ lt r. omega arith }),
-              )))
-              (λ in-range.
-                  let range = not-from-decides _ (decides-range t k body) in-range in
-                  let five = keeps (OutOfRange t) range in
-                  subst DeclaringTells (sym (cond-false _ _ _ in-range)) (⊎-elim
-                  (λ bad. subst DeclaringTells (sym (cond-true _ _ _ bad)) (f .at-place, (
-                    breaks-pair (holds (BadPair t) (decides-pair t k body .0 bad)),
-                    none-below 6 (record { one = λ lt. kept-one; two = λ lt. kept-two; three = λ lt. kept-three; four = λ lt. four; five = λ lt. five; six = λ lt r. omega arith; seven = λ lt r. omega arith }),
-                  )))
-                  (λ good.
-                      let pair = not-from-decides _ (decides-pair t k body) good in
-                      let six = keeps (BadPair t) pair in
-                      subst DeclaringTells (sym (cond-false _ _ _ good)) (⊎-elim
-                      (λ bad. subst DeclaringTells (sym (cond-true _ _ _ bad)) (f .at-place, (
-                        breaks-session (holds (BadSession t) (decides-session t k body .0 bad)),
-                        none-below 7 (record { one = λ lt. kept-one; two = λ lt. kept-two; three = λ lt. kept-three; four = λ lt. four; five = λ lt. five; six = λ lt. six; seven = λ lt r. omega arith }),
-                      )))
-                      (λ local. subst DeclaringTells (sym (cond-false _ _ _ local)) (refl, record {
-                        rises = omega (arith, f .rises);
-                        long = long;
-                        bytes = bytes;
-                        room = leb-false (most k) (count t k) roomy;
-                        range = range;
-                        pair = pair;
-                        session = session-local k local;
-                      }))
-                      (cases-bool (bad-session t k body))))
-                  (cases-bool (bad-pair t k body))))
-              (cases-bool (out-of-range t k body))))
+          let four = keeps (λ j _. most j ≤ count t j) (λ h. omega (arith, leb-false (most k) (count t k) roomy)) in
+          subst DeclaringTells (sym (cond-false _ _ _ roomy)) (⊎-elim
+          (λ off. subst DeclaringTells (sym (cond-true _ _ _ off)) (
+            f .at-place,
+            (
+              breaks-range (holds (OutOfRange t) (decides-range t k body .0 off)),
+              none-below 5 (record { one = λ lt. kept-one; two = λ lt. kept-two; three = λ lt. kept-three; four = λ lt. four; five = λ lt r. omega arith; six = λ lt r. omega arith; seven = λ lt r. omega arith }),
+            ),
+          ))
+          (λ in-range.
+          let range = not-from-decides _ (decides-range t k body) in-range in
+          let five = keeps (OutOfRange t) range in
+          subst DeclaringTells (sym (cond-false _ _ _ in-range)) (⊎-elim
+          (λ bad. subst DeclaringTells (sym (cond-true _ _ _ bad)) (
+            f .at-place,
+            (
+              breaks-pair (holds (BadPair t) (decides-pair t k body .0 bad)),
+              none-below 6 (record { one = λ lt. kept-one; two = λ lt. kept-two; three = λ lt. kept-three; four = λ lt. four; five = λ lt. five; six = λ lt r. omega arith; seven = λ lt r. omega arith }),
+            ),
+          ))
+          (λ good.
+          let pair = not-from-decides _ (decides-pair t k body) good in
+          let six = keeps (BadPair t) pair in
+          subst DeclaringTells (sym (cond-false _ _ _ good)) (⊎-elim
+          (λ bad. subst DeclaringTells (sym (cond-true _ _ _ bad)) (
+            f .at-place,
+            (
+              breaks-session (holds (BadSession t) (decides-session t k body .0 bad)),
+              none-below 7 (record { one = λ lt. kept-one; two = λ lt. kept-two; three = λ lt. kept-three; four = λ lt. four; five = λ lt. five; six = λ lt. six; seven = λ lt r. omega arith }),
+            ),
+          ))
+          (λ local. subst DeclaringTells (sym (cond-false _ _ _ local)) (
+            refl,
+            record {
+              rises = omega (arith, f .rises);
+              long = long;
+              bytes = bytes;
+              room = leb-false (most k) (count t k) roomy;
+              range = range;
+              pair = pair;
+              session = session-local k local;
+            },
+          ))
+          (cases-bool (bad-session t k body))))
+          (cases-bool (bad-pair t k body))))
+          (cases-bool (out-of-range t k body))))
           (cases-bool (leb (most k) (count t k)))

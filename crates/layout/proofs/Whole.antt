@@ -56,8 +56,7 @@ module _ (routers : List Router) where
   unled-from : (v : ℕ) → v < length routers → ((d : Router) → unled routers (getD routers v d) ≡ true) → Unled routers v
   unled-from v lt h =
       let r = getD routers v (client 0) in
-      let s = and-parts (is-client (r .role)) _ (h (client 0)) in
-      (
+      let s = and-parts (is-client (r .role)) _ (h (client 0)) in (
         r .cluster,
         is-from routers v (client 0) _ lt (a-client (r .cluster) (r .role) (s .0)),
         λ w is. not-from-decides _ (decides-has (r .cluster) routers) (not-true _ (s .1)) (w, is),

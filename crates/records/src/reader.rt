@@ -1,9 +1,9 @@
 ghost use mathlib.Core.Path.{_≡_};
 ghost use Rattle.records.specs.Readings.{reading, answered, passing, standing, kind-in, body-in};
-use faults::RecordFault;
 use crate::kind::Kind;
 use crate::record::Placed;
 use crate::record::Record;
+use faults::RecordFault;
 
 // Goes through the records of a caller's bytes.
 #[derive(Drop)]

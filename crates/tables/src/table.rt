@@ -1,5 +1,6 @@
 ghost use Rattle.layout.specs.WellFormed.{WellFormed};
 ghost use Rattle.tables.specs.Held.{declared-in};
+
 mod exits;
 mod lists;
 mod read;

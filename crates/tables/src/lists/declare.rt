@@ -85,7 +85,11 @@ impl Lists {
         if cluster >= 32 || role >= 2 {
             return Err(TableFault::OutOfRange(place));
         }
-        let role = if role == 1 { Role::Reflector } else { Role::Client };
+        let role = if role == 1 {
+            Role::Reflector
+        } else {
+            Role::Client
+        };
         let _ = self.routers.push(Router { cluster, role });
         Ok(())
     }

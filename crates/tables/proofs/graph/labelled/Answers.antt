@@ -19,8 +19,7 @@ pub loop-link-again : need.loop-link-again
 loop-link-again c =
     let links = c .args .links .now in
     let i = c .loop-link .link-index in
-    let unread : Link = record { ends = record { a = 0; b = 0 }; metric = 0 } in
-    (
+    let unread : Link = record { ends = record { a = 0; b = 0 }; metric = 0 } in (
       ap (λ ls. merged-all ls (drop (i + 1) links)) (c .relabel .ensures) ∙ sym (merged-next (c .loop-link .labels) links i unread (c .loop-link-test .taken)) ∙ c .loop-link .inv .0,
       ap length (c .relabel .ensures) ∙ length-map _ _ ∙ c .loop-link .inv .1,
     )

@@ -19,8 +19,8 @@ loop-label-again c =
     let within : i < length ys = omega (arith, c .loop-label .kept .labels, c .loop-label-test .taken) in
     let next = map-over-more f (c .args .labels .now) ys i x (c .loop-label-test .taken) (c .loop-label .inv) (getD-default ys i 0 x within) in
     elim (c .if-label-old .came) [
-      then-label-old w ↦ w .labels-is ∙ ap (set ys i) (sym (hit _ _ x (w .if-label-old .taken))) ∙ next
-    | else-label-old w ↦ w .labels-is ∙ ap (set ys i) (sym (miss (c .args .old) (c .args .new) x (w .if-label-old .left))) ∙ next
+      | then-label-old w ↦ w .labels-is ∙ ap (set ys i) (sym (hit _ _ x (w .if-label-old .taken))) ∙ next
+      | else-label-old w ↦ w .labels-is ∙ ap (set ys i) (sym (miss (c .args .old) (c .args .new) x (w .if-label-old .left))) ∙ next
     ]
 
 pub returns : need.returns

@@ -22,9 +22,9 @@ loop-p-again c =
     let within : i < 64 = omega (arith, c .loop-p-test .taken, c .paths-paths .ensures .few) in
     let here = leaves-here v xs i unread (c .loop-p-test .taken) in
     elim (c .if-path-router .came) [
-      then-path-router w ↦ λ k.
+      | then-path-router w ↦ λ k.
           ap (λ (s : PathSet). member (s .0) k) (w .exits-is) ∙ w .with-exits .ensures .members k ∙ exits-with (leaves-at v xs) i within (here ∙ eq-eqb _ _ (w .if-path-router .taken)) k _ (c .loop-p .inv k)
-    | else-path-router w ↦ λ k.
+      | else-path-router w ↦ λ k.
           ap (λ (s : PathSet). member (s .0) k) (w .exits-is) ∙ exits-without (leaves-at v xs) i (here ∙ ne-eqb _ _ (w .if-path-router .left)) k _ (c .loop-p .inv k)
     ]
 

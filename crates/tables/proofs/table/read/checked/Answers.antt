@@ -27,9 +27,9 @@ pub mul-result-in-Some-cut-off-router : need.mul-result-in-Some-cut-off-router
 mul-result-in-Some-cut-off-router c =
     let t = declared-in (c .args .lists) in
     let found =
-      c .in-Some-cut-off-router .ensures tt
-      ∙ ap (λ ls. first-where (cut-off (labels ls)) 0 (take (c .len-count .result) (labels ls))) (c .as-slice-2 .ensures)
-      ∙ ap (λ n. first-where (cut-off (labels (t .links))) 0 (take n (labels (t .links)))) (c .len-count .ensures) in
+    c .in-Some-cut-off-router .ensures tt
+    ∙ ap (λ ls. first-where (cut-off (labels ls)) 0 (take (c .len-count .result) (labels ls))) (c .as-slice-2 .ensures)
+    ∙ ap (λ n. first-where (cut-off (labels (t .links))) 0 (take n (labels (t .links)))) (c .len-count .ensures) in
     omega (arith, cut-off-below t (c .pre) (c .in-Some-cut-off-router .v) found)
 
 pub ghost-result : need.ghost-result
@@ -37,8 +37,8 @@ ghost-result c =
     let t = declared-in (c .args .lists) in
     let led = c .in-rest .ensures tt ∙ ap (λ rs. first-where (unled rs) 0 rs) (c .as-slice .ensures) in
     let joined =
-      c .in-rest-cut-off-router .ensures tt
-      ∙ ap (λ ls. first-where (cut-off (labels ls)) 0 (take (c .len-count .result) (labels ls))) (c .as-slice-2 .ensures)
-      ∙ ap (λ n. first-where (cut-off (labels (t .links))) 0 (take n (labels (t .links)))) (c .len-count .ensures) in
+    c .in-rest-cut-off-router .ensures tt
+    ∙ ap (λ ls. first-where (cut-off (labels ls)) 0 (take (c .len-count .result) (labels ls))) (c .as-slice-2 .ensures)
+    ∙ ap (λ n. first-where (cut-off (labels (t .links))) 0 (take n (labels (t .links)))) (c .len-count .ensures) in
     let some : 1 ≤ length (t .routers) = omega (arith, c .if-count-eq0 .left, c .len-count .ensures) in
     (∣ well-formed t (c .pre) some led joined ∣₁, tt)

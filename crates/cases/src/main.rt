@@ -1,0 +1,96 @@
+// Plays tables written in hexadecimal, a line each, and prints what each comes to.
+ghost use mathlib.Core.Path.{_≡_};
+ghost use lib.ListN.{length};
+ghost use Rattle.cases.specs.Worked.{Holds, worked};
+ghost use Rattle.std.specs.shelf.Lists.{All};
+use std::alloc::AllocError;
+use std::alloc::Global;
+use std::error::AnyError;
+use tables::Table;
+
+// How many worked cases are proved: each of the list holds.
+fn worked_cases() -> usize
+    ensures hold { λ _. ⌜ All Holds worked ⌝ }
+    ensures count { λ r. ⌜ r ≡ length worked ⌝ }
+{
+    4
+}
+
+// The value of a hexadecimal digit.
+fn digit(b: u8) -> Option<u8> {
+    match b {
+        b'0'..=b'9' => Some(b - b'0'),
+        b'A'..=b'F' => Some(b - b'A' + 10),
+        _ => None,
+    }
+}
+
+// The bytes that a text spells, with any spaces and commas between digits; none where it spells no bytes.
+fn spelled(heap: Global, text: &str) -> Result<Option<Vec<u8>>, AllocError> {
+    let mut bytes = Vec::new(heap);
+    let mut high = None;
+    for b in text.bytes() {
+        if b == b' ' || b == b',' {
+            continue;
+        }
+        let Some(low) = digit(b) else {
+            return Ok(None);
+        };
+        match high {
+            None => high = Some(low),
+            Some(h) => {
+                bytes.push(low.wrapping_add(h.wrapping_mul(16)))?;
+                high = None;
+            }
+        }
+    }
+    if high.is_some() {
+        return Ok(None);
+    }
+    Ok(Some(bytes))
+}
+
+fn play(rt: &LibcRuntime, name: &str, bytes: &[u8]) -> Result<(), AnyError> {
+    match Table::read(bytes) {
+        Ok(table) => {
+            let routers = table.routers().len();
+            let links = table.links().len();
+            let sessions = table.sessions().len();
+            let paths = table.paths().len();
+            println!(
+                rt,
+                "{name}: {routers} routers, {links} links, {sessions} sessions, {paths} paths"
+            )?;
+        }
+        Err(fault) => {
+            let number = fault.number();
+            let place = fault.place();
+            println!(rt, "{name}: {number} at {place}")?;
+        }
+    }
+    Ok(())
+}
+
+// A line is a name, a colon and the bytes.
+fn line(rt: &LibcRuntime, text: &str) -> Result<(), AnyError> {
+    let Some((name, bytes)) = text.split_once(':') else {
+        return Err("a line without a colon".into());
+    };
+    let Some(bytes) = spelled(rt.alloc(), bytes)? else {
+        return Err("a line that spells no bytes".into());
+    };
+    play(rt, name, bytes.as_slice())
+}
+
+fn run(rt: &LibcRuntime) -> Result<(), AnyError> {
+    let proved = worked_cases();
+    println!(rt, "{proved} worked cases are proved")?;
+    for text in rt.lines(rt.alloc()) {
+        line(rt, text?.as_str())?;
+    }
+    Ok(())
+}
+
+fn main(rt: LibcRuntime) -> Result<(), AnyError> {
+    rt.report(run(&rt))
+}
