@@ -28,27 +28,19 @@ module _ (before place : ℕ) (bs : List ℕ) where
     at-kind : reading-kind before place (drop (place + 1) bs) (Some k) ≡ reading-at before place (drop place bs)
     at-kind = ap (reading-kind before place (drop (place + 1) bs)) is ∙ sym (at-byte within)
 
-    pub next-cut-short : length bs - place - 1 < body-length k → refused (CutShort place) ≡ reading-at before place (drop place bs)
-    next-cut-short h =
-        let short = lt-ltb (length (drop (place + 1) bs)) (body-length k) (omega (arith, length-drop (place + 1) bs)) in
-        sym (rw short) ∙ at-kind
+    pub next-cut-short : length (drop (place + 1) bs) < body-length k → refused (CutShort place) ≡ reading-at before place (drop place bs)
+    next-cut-short h = sym (rw (lt-ltb (length (drop (place + 1) bs)) (body-length k) h)) ∙ at-kind
 
-    module _ (whole : body-length k ≤ length bs - place - 1) where
+    module _ (whole : body-length k ≤ length (drop (place + 1) bs)) where
       long : ltb (length (drop (place + 1) bs)) (body-length k) ≡ false
-      long = le-ltb (length (drop (place + 1) bs)) (body-length k) (omega (arith, length-drop (place + 1) bs))
+      long = le-ltb (length (drop (place + 1) bs)) (body-length k) whole
 
       pub next-kind-falls : kind-byte k < before → refused (KindFalls place) ≡ reading-at before place (drop place bs)
       next-kind-falls h = sym (rw (long, lt-ltb (kind-byte k) before h)) ∙ at-kind
 
-      pub next-found : before ≤ kind-byte k → found place k (take (body-length k) (drop (place + 1) bs)) ≡ reading-at before place (drop place bs)
-      next-found h = sym (rw (long, le-ltb (kind-byte k) before h)) ∙ at-kind
-
       -- the record that is handed out, whose body is cut out of the bytes
-      pub next-handed : (k′ : Kind) (body : List ℕ) (len : ℕ) → k′ ≡ k → len ≡ body-length k → body ≡ take (place + 1 + len - (place + 1)) (drop (place + 1) bs) → before ≤ kind-byte k → found place k′ body ≡ reading-at before place (drop place bs)
-      next-handed k′ body len kind is-len cut h =
-          let size : place + 1 + len - (place + 1) ≡ body-length k = omega arith in
-          let same : body ≡ take (body-length k) (drop (place + 1) bs) = cut ∙ ap (λ n. take n (drop (place + 1) bs)) size in
-          ap (λ x. found place x body) kind ∙ ap (found place k) same ∙ next-found h
+      pub next-found : (k′ : Kind) (body : List ℕ) → k′ ≡ k → body ≡ take (body-length k) (drop (place + 1) bs) → before ≤ kind-byte k → found place k′ body ≡ reading-at before place (drop place bs)
+      next-found k′ body kind cut h = ap (λ x. found place x body) kind ∙ ap (found place k) cut ∙ sym (rw (long, le-ltb (kind-byte k) before h)) ∙ at-kind
 
 -- where the reader stands behind a record
 pub stands-behind : (place : ℕ) (bs : List ℕ) (k k′ : Kind) (b len : ℕ) → k′ ≡ k → b ≡ kind-byte k → len ≡ body-length k → _≡_ {A = Standing} (record { before = b; place = place + 1 + len; rest = drop (place + 1 + len) bs }) (record { before = kind-byte k′; place = place + 1 + body-length k′; rest = drop (1 + body-length k′) (drop place bs) })

@@ -1,5 +1,9 @@
 ghost use mathlib.Core.Path.{_≡_};
+ghost use Prim.Native.Nat.{_<_, _≤_};
+ghost use lib.ListN.{length, take};
+ghost use Rattle.records.specs.Kinds.{body-length};
 ghost use Rattle.records.specs.Readings.{reading, answered, passing, standing, kind-in, body-in};
+ghost use Rattle.std.specs.Options.{Cases};
 use crate::kind::Kind;
 use crate::record::Placed;
 use crate::record::Record;
@@ -13,16 +17,27 @@ pub struct Reader<'a> {
     before: u8,
 }
 
-// A body under its kind.
-fn under<'a>(kind: Kind, body: &'a [u8]) -> Record<'a>
-    ensures kind { λ r. ⌜ kind-in r ≡ kind ⌝ }
-    ensures body { λ r. ⌜ body-in r ≡ now (body .entry) ⌝ }
+// The record of a kind whose body stands in front; none where the bytes end inside it.
+fn record_of<'a>(kind: Kind, bytes: &'a [u8]) -> Option<Record<'a>>
+    ensures { λ r. ⌜ Cases r (length (now (bytes .entry)) < body-length kind) (λ x. (body-length kind ≤ length (now (bytes .entry))) × (kind-in x ≡ kind) × (body-in x ≡ take (body-length kind) (now (bytes .entry)))) ⌝ }
 {
     match kind {
-        Kind::Router => Record::Router(body),
-        Kind::Link => Record::Link(body),
-        Kind::Session => Record::Session(body),
-        Kind::Path => Record::Path(body),
+        Kind::Router => match bytes.first_chunk() {
+            Some(body) => Some(Record::Router(body)),
+            None => None,
+        },
+        Kind::Link => match bytes.first_chunk() {
+            Some(body) => Some(Record::Link(body)),
+            None => None,
+        },
+        Kind::Session => match bytes.first_chunk() {
+            Some(body) => Some(Record::Session(body)),
+            None => None,
+        },
+        Kind::Path => match bytes.first_chunk() {
+            Some(body) => Some(Record::Path(body)),
+            None => None,
+        },
     }
 }
 
@@ -44,26 +59,21 @@ impl<'a> Reader<'a> {
         ensures stands { λ r. ⌜ standing (now (self .exit)) ≡ passing (standing (now (self .entry))) (answered r) ⌝ }
     {
         let place = self.place;
-        let rest = self.bytes.len().saturating_sub(place);
-        if rest == 0 {
+        if place >= self.bytes.len() {
             return Ok(None);
         }
         let Some(kind) = Kind::of(self.bytes[place]) else {
             return Err(RecordFault::UnknownKind(place));
         };
-        let len = kind.body_len();
-        if rest - 1 < len {
+        let behind = place + 1;
+        let Some(record) = record_of(kind, &self.bytes[behind..]) else {
             return Err(RecordFault::CutShort(place));
-        }
+        };
         if kind.byte() < self.before {
             return Err(RecordFault::KindFalls(place));
         }
-        let body = &self.bytes[place + 1..place + 1 + len];
-        self.place = place + 1 + len;
+        self.place = behind + kind.body_len();
         self.before = kind.byte();
-        Ok(Some(Placed {
-            place,
-            record: under(kind, body),
-        }))
+        Ok(Some(Placed { place, record }))
     }
 }

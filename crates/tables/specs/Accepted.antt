@@ -2,11 +2,11 @@
 use Rattle.std.specs.declared.result.Result.{Result}
 use Rattle.std.specs.declared.result.Result.the-variants.{Ok, Err}
 use Rattle.layout.specs.Table.{Declared}
-use Rattle.tables.specs.Held.{declared-in}
+use Rattle.declarations.specs.Held.{declared-in}
 use Rattle.tables.specs.declared.table.Table.{Table}
 
 abbrev pub declared : Table → Declared
-declared t = declared-in (t .lists)
+declared t = declared-in (t .declarations)
 
 -- what was answered: what the table declares, or the fault
 abbrev pub answer : {F : Type 0} → Result Table F → Result Declared F

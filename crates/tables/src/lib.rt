@@ -1,8 +1,5 @@
-// Records to a checked table.
-mod bytes;
+// Bytes to a checked table: the one call that reads a table, and what it gives.
 mod graph;
-mod lists;
-mod pairs;
 mod table;
 
 pub use table::Table;

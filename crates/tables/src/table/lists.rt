@@ -14,7 +14,7 @@ impl Table {
         ensures value { λ r. ⌜ now r ≡ declared (now (self .entry)) .routers ⌝ }
         ensures few { λ r. ⌜ length (now r) ≤ 32 ⌝ }
     {
-        self.lists.routers.as_slice()
+        self.declarations.routers.as_slice()
     }
 
     // The links, as they come.
@@ -22,7 +22,7 @@ impl Table {
         ensures value { λ r. ⌜ now r ≡ declared (now (self .entry)) .links ⌝ }
         ensures few { λ r. ⌜ length (now r) ≤ 128 ⌝ }
     {
-        self.lists.links.as_slice()
+        self.declarations.links.as_slice()
     }
 
     // The client sessions, as they come.
@@ -30,7 +30,7 @@ impl Table {
         ensures value { λ r. ⌜ now r ≡ declared (now (self .entry)) .sessions ⌝ }
         ensures few { λ r. ⌜ length (now r) ≤ 64 ⌝ }
     {
-        self.lists.sessions.as_slice()
+        self.declarations.sessions.as_slice()
     }
 
     // The exit paths, in the order of their numbers.
@@ -38,6 +38,6 @@ impl Table {
         ensures value { λ r. ⌜ now r ≡ declared (now (self .entry)) .paths ⌝ }
         ensures few { λ r. ⌜ length (now r) ≤ 64 ⌝ }
     {
-        self.lists.paths.as_slice()
+        self.declarations.paths.as_slice()
     }
 }

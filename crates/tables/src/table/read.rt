@@ -4,11 +4,11 @@ ghost use Rattle.layout.specs.Promise.{Reads};
 ghost use Rattle.layout.specs.Reading.{table-in};
 ghost use Rattle.layout.specs.WellFormed.{Sound};
 ghost use Rattle.tables.specs.Accepted.{answer};
-ghost use Rattle.tables.specs.Held.{declared-in};
+ghost use Rattle.declarations.specs.Held.{declared-in};
 use crate::graph::cut_off_router;
 use crate::graph::unled_client;
-use crate::lists::Lists;
 use crate::table::Table;
+use declarations::Declarations;
 use faults::GraphFault;
 use faults::LoadFault;
 use records::Reader;
@@ -16,22 +16,22 @@ use records::Reader;
 // The offset of a router's record: routers come first, with three bytes each.
 const ROUTER_LEN: usize = 3;
 
-// The table of these lists, or the first rule that they break as a whole.
-fn checked(lists: Lists) -> Result<Table, GraphFault>
-    requires { ⌜ Sound (declared-in lists) ⌝ }
-    ensures { λ r. ⌜ answer r ≡ whole (declared-in lists) ⌝ }
+// The table of these declarations, or the first rule that they break as a whole.
+fn checked(declarations: Declarations) -> Result<Table, GraphFault>
+    requires { ⌜ Sound (declared-in declarations) ⌝ }
+    ensures { λ r. ⌜ answer r ≡ whole (declared-in declarations) ⌝ }
 {
-    let count = lists.routers.len();
+    let count = declarations.routers.len();
     if count == 0 {
         return Err(GraphFault::NoRouter);
     }
-    if let Some(v) = unled_client(lists.routers.as_slice()) {
+    if let Some(v) = unled_client(declarations.routers.as_slice()) {
         return Err(GraphFault::NoReflector(ROUTER_LEN * v));
     }
-    if let Some(v) = cut_off_router(count, lists.links.as_slice()) {
+    if let Some(v) = cut_off_router(count, declarations.links.as_slice()) {
         return Err(GraphFault::NotJoined(ROUTER_LEN * v));
     }
-    Ok(Table { lists })
+    Ok(Table { declarations })
 }
 
 impl Table {
@@ -40,7 +40,7 @@ impl Table {
         ensures value { λ r. ⌜ answer r ≡ table-in (now (bytes .entry)) ⌝ }
         ensures promise { λ r. ⌜ Reads (now (bytes .entry)) (answer r) ⌝ }
     {
-        let mut lists = Lists::new();
+        let mut declarations = Declarations::new();
         let mut reader = Reader::new(bytes);
         loop {
             let next = match reader.next() {
@@ -50,11 +50,11 @@ impl Table {
             let Some(found) = next else {
                 break;
             };
-            if let Err(fault) = lists.declare(found) {
+            if let Err(fault) = declarations.declare(found) {
                 return Err(LoadFault::Table(fault));
             }
         }
-        match checked(lists) {
+        match checked(declarations) {
             Ok(table) => Ok(table),
             Err(fault) => Err(LoadFault::Graph(fault)),
         }

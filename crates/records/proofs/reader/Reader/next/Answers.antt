@@ -1,43 +1,42 @@
-use mathlib.Core.Path.{refl}
-use Prim.Native.Nat.{_-_, _<_, _≤_}
+use mathlib.Core.Path.{_≡_, refl, ap, subst, _∙_}
+use Prim.Native.Nat.{_+_, _<_, _≤_}
 use native.Mathlib.Omega.{arith}
-use lib.ListN.{length}
+use lib.ListN.{length, take, drop}
+use Rattle.std.proofs.shelf.Lists.{take-rest}
 use Rattle.records.specs.Kinds.{body-length, kind-byte}
-use Rattle.records.proofs.Next.{next-ended, next-unknown, next-cut-short, next-kind-falls, next-handed, stands-behind}
+use Rattle.records.proofs.Next.{next-ended, next-unknown, next-cut-short, next-kind-falls, next-found, stands-behind}
 use Rattle.records.proofs.reader.Reader.next.Needs as need
 
-pub returns-then-rest-eq0 : need.returns-then-rest-eq0
-returns-then-rest-eq0 c =
-    let end : length (c .args .self .now .bytes .now) ≤ c .args .self .now .place = omega (arith, c .saturating-sub-rest .ensures) in
-    record { answer = next-ended _ _ _ end; stands = refl }
+pub returns-then-place-self : need.returns-then-place-self
+returns-then-place-self c = record { answer = next-ended _ _ _ (c .if-place-self .taken); stands = refl }
 
 pub returns-in-rest : need.returns-in-rest
-returns-in-rest c =
-    let within : c .args .self .now .place < length (c .args .self .now .bytes .now) = omega (arith, c .saturating-sub-rest .ensures) in
-    record { answer = next-unknown _ _ _ within (c .in-rest .ensures tt); stands = refl }
+returns-in-rest c = record { answer = next-unknown _ _ _ (c .if-place-self .left) (c .in-rest .ensures tt); stands = refl }
 
-pub returns-then-rest-len : need.returns-then-rest-len
-returns-then-rest-len c =
+pub returns-in-rest-record-of : need.returns-in-rest-record-of
+returns-in-rest-record-of c =
     let self = c .args .self .now in
-    let within : self .place < length (self .bytes .now) = omega (arith, c .saturating-sub-rest .ensures) in
-    let short : length (self .bytes .now) - self .place - 1 < body-length (c .in-Some .kind) = omega (arith, c .saturating-sub-rest .ensures, c .body-len-len .ensures) in
-    record { answer = next-cut-short (self .before) _ _ _ within (c .in-Some .ensures tt) short; stands = refl }
+    let k = c .in-Some .kind in
+    let short = subst (λ l. length l < body-length k) (take-rest (self .bytes .now) (self .place + 1)) (c .in-rest-record-of .ensures tt) in
+    record { answer = next-cut-short (self .before) (self .place) (self .bytes .now) k (c .if-place-self .left) (c .in-Some .ensures tt) short; stands = refl }
 
 pub returns-then-byte-self : need.returns-then-byte-self
 returns-then-byte-self c =
     let self = c .args .self .now in
-    let within : self .place < length (self .bytes .now) = omega (arith, c .saturating-sub-rest .ensures) in
-    let whole : body-length (c .in-Some .kind) ≤ length (self .bytes .now) - self .place - 1 = omega (arith, c .saturating-sub-rest .ensures, c .body-len-len .ensures) in
-    let falls : kind-byte (c .in-Some .kind) < self .before = omega (arith, c .byte .ensures) in
-    record { answer = next-kind-falls _ _ _ _ within (c .in-Some .ensures tt) whole falls; stands = refl }
+    let k = c .in-Some .kind in
+    let whole = subst (λ l. body-length k ≤ length l) (take-rest (self .bytes .now) (self .place + 1)) (c .in-Some-record-of .ensures tt .0) in
+    let falls : kind-byte k < self .before = omega (arith, c .byte .ensures) in
+    record { answer = next-kind-falls (self .before) (self .place) (self .bytes .now) k (c .if-place-self .left) (c .in-Some .ensures tt) whole falls; stands = refl }
 
 pub returns : need.returns
 returns c =
     let self = c .args .self .now in
-    let within : self .place < length (self .bytes .now) = omega (arith, c .saturating-sub-rest .ensures) in
-    let whole : body-length (c .in-Some .kind) ≤ length (self .bytes .now) - self .place - 1 = omega (arith, c .saturating-sub-rest .ensures, c .body-len-len .ensures) in
-    let rises : self .before ≤ kind-byte (c .in-Some .kind) = omega (arith, c .byte .ensures) in
+    let k = c .in-Some .kind in
+    let rest = take-rest (self .bytes .now) (self .place + 1) in
+    let told = c .in-Some-record-of .ensures tt in
+    let whole = subst (λ l. body-length k ≤ length l) rest (told .0) in
+    let rises : self .before ≤ kind-byte k = omega (arith, c .byte .ensures) in
     record {
-      answer = next-handed _ _ _ _ within (c .in-Some .ensures tt) whole _ _ _ (c .under .ensures .kind) (c .body-len-len .ensures) (c .under .ensures .body) rises;
-      stands = stands-behind _ _ _ _ _ _ (c .under .ensures .kind) (c .byte-self .ensures) (c .body-len-len .ensures);
+      answer = next-found (self .before) (self .place) (self .bytes .now) k (c .if-place-self .left) (c .in-Some .ensures tt) whole _ _ (told .1) (told .2 ∙ ap (take (body-length k)) rest) rises;
+      stands = stands-behind (self .place) (self .bytes .now) _ _ _ _ (told .1) (c .byte-self .ensures) (c .body-len .ensures);
     }

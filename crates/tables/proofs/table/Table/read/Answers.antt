@@ -3,9 +3,9 @@ use native.Mathlib.Omega.{arith}
 use lib.ListN.{length}
 use Rattle.std.specs.declared.result.Result.the-variants.{Ok}
 use Rattle.layout.specs.Reading.{of-graph}
-use Rattle.layout.proofs.Progress.{Progress, begun, ends, refuses, breaks, goes-on, found-whole, found-less}
+use Rattle.layout.proofs.Progress.{Progress, begun, ends, refuses, breaks, goes-on, found-less}
 use Rattle.records.specs.Readings.{Reading, ended, found, reading, Standing, standing, passing, answered, kind-in, body-in}
-use Rattle.tables.specs.Held.{declared-in}
+use Rattle.declarations.specs.Held.{declared-in}
 use Rattle.tables.proofs.Answered.{are-bytes, promised}
 use Rattle.tables.proofs.table.Table.read.Needs as need
 use Rattle.tables.proofs.table.Table.read.Needs.{In-Some}
@@ -13,8 +13,8 @@ use Rattle.tables.proofs.table.Table.read.Needs.{In-Some}
 -- nothing is read yet
 pub loop-next-holds : need.loop-next-holds
 loop-next-holds c =
-    subst (Progress (c .args .bytes .now) (declared-in (c .new-lists .result))) (sym (c .new-reader .ensures))
-    (subst (λ t. Progress (c .args .bytes .now) t (record { before = 0; place = 0; rest = c .args .bytes .now })) (sym (c .new-lists .ensures)) (begun (c .args .bytes .now) (are-bytes (c .args .bytes .now) (c .typed .bytes))))
+    subst (Progress (c .args .bytes .now) (declared-in (c .new-declarations .result))) (sym (c .new-reader .ensures))
+    (subst (λ t. Progress (c .args .bytes .now) t (record { before = 0; place = 0; rest = c .args .bytes .now })) (sym (c .new-declarations .ensures)) (begun (c .args .bytes .now) (are-bytes (c .args .bytes .now) (c .typed .bytes))))
 
 pub returns-in-Err : need.returns-in-Err
 returns-in-Err c =
@@ -24,9 +24,6 @@ returns-in-Err c =
 -- the record that stands there
 there : (c : In-Some) → found (c .in-Some .found .place) (kind-in (c .in-Some .found .record)) (body-in (c .in-Some .found .record)) ≡ reading (standing (c .loop-next .reader))
 there c = ap (λ o. answered (Ok o)) (sym (c .in-Some .is)) ∙ c .in-Ok .ensures tt .answer
-
-pub declare-requires : need.declare-requires
-declare-requires c κs = found-whole (standing (c .loop-next .reader)) _ _ _ (there (need.at·declare-requires c .In-Some))
 
 pub returns-in-Err-declare : need.returns-in-Err-declare
 returns-in-Err-declare c =

@@ -8,24 +8,24 @@ use Rattle.std.specs.shelf.Lists.{All}
 use Rattle.layout.specs.Graph.{first-where, unled, cut-off, labels}
 use Rattle.layout.proofs.Chains.{Labellable}
 use Rattle.layout.proofs.Whole.{all-labellable, unled-below, cut-off-below, well-formed}
-use Rattle.tables.specs.Held.{declared-in}
+use Rattle.declarations.specs.Held.{declared-in}
 use Rattle.tables.proofs.table.read.checked.Needs as need
 
 pub mul-result : need.mul-result
 mul-result c =
-    let t = declared-in (c .args .lists) in
+    let t = declared-in (c .args .declarations) in
     let found = c .in-Some .ensures tt ∙ ap (λ rs. first-where (unled rs) 0 rs) (c .as-slice .ensures) in
     omega (arith, unled-below t (c .pre) (c .in-Some .v) found)
 
 pub cut-off-router-requires : need.cut-off-router-requires
 cut-off-router-requires c κs = record {
   few = omega (arith, c .len-count .ensures, c .pre .few-routers);
-  declared = subst (All Labellable) (sym (c .as-slice-2 .ensures)) (all-labellable (declared-in (c .args .lists)) (c .pre));
+  declared = subst (All Labellable) (sym (c .as-slice-2 .ensures)) (all-labellable (declared-in (c .args .declarations)) (c .pre));
 }
 
 pub mul-result-in-Some-cut-off-router : need.mul-result-in-Some-cut-off-router
 mul-result-in-Some-cut-off-router c =
-    let t = declared-in (c .args .lists) in
+    let t = declared-in (c .args .declarations) in
     let found =
     c .in-Some-cut-off-router .ensures tt
     ∙ ap (λ ls. first-where (cut-off (labels ls)) 0 (take (c .len-count .result) (labels ls))) (c .as-slice-2 .ensures)
@@ -34,7 +34,7 @@ mul-result-in-Some-cut-off-router c =
 
 pub ghost-result : need.ghost-result
 ghost-result c =
-    let t = declared-in (c .args .lists) in
+    let t = declared-in (c .args .declarations) in
     let led = c .in-rest .ensures tt ∙ ap (λ rs. first-where (unled rs) 0 rs) (c .as-slice .ensures) in
     let joined =
     c .in-rest-cut-off-router .ensures tt

@@ -4,9 +4,9 @@ use Rattle.std.specs.declared.result.Result.the-variants.{Ok, Err}
 use Rattle.arrays.specs.Items.{listed}
 use Rattle.faults.specs.declared.table.TableFault.{TableFault}
 use Rattle.layout.specs.Table.{Declared}
-use Rattle.tables.specs.declared.lists.Lists.{Lists}
+use Rattle.declarations.specs.declared.declarations.Declarations.{Declarations}
 
-abbrev pub declared-in : Lists → Declared
+abbrev pub declared-in : Declarations → Declared
 declared-in l = record { routers = listed (l .routers); links = listed (l .links); sessions = listed (l .sessions); paths = listed (l .paths) }
 
 -- what one more record came to: what is declared then, or the fault

@@ -3,7 +3,7 @@ use mathlib.Core.List.{map}
 use Rattle.std.proofs.shelf.Lists.{at-drop-all}
 use Rattle.layout.specs.Checks.{same-pair, repeats}
 use Rattle.layout.proofs.Loops.{some-here, some-later}
-use Rattle.tables.proofs.pairs.repeated.Needs as need
+use Rattle.declarations.proofs.pairs.repeated.Needs as need
 
 pub returns-then-same : need.returns-then-same
 returns-then-same g c =

@@ -4,13 +4,11 @@ ghost use lib.Dec.{ltb};
 ghost use lib.ListN.{length};
 ghost use Rattle.layout.specs.Checks.{declaring, clients-of-one};
 ghost use Rattle.layout.specs.Table.{nothing};
-ghost use Rattle.records.specs.Kinds.{body-length};
 ghost use Rattle.records.specs.Readings.{kind-in, body-in};
 ghost use Rattle.records.specs.declared.kind.Kind.the-variants.{Router as router-kind, Link as link-kind, Session as session-kind, Path as path-kind};
-ghost use Rattle.tables.specs.Held.{declared-in, outcome};
-use crate::bytes::four_bytes;
-use crate::bytes::two_bytes;
-use crate::lists::Lists;
+ghost use Rattle.declarations.specs.Held.{declared-in, outcome};
+use crate::declarations::Declarations;
+use crate::numbers::four_bytes;
 use crate::pairs::LinkJoins;
 use crate::pairs::SessionJoins;
 use crate::pairs::repeated;
@@ -25,13 +23,13 @@ use layout::Session;
 use records::Placed;
 use records::Record;
 
-impl Lists {
+impl Declarations {
     // Nothing declared.
-    pub(crate) fn new() -> Lists
+    pub fn new() -> Declarations
         ensures { λ r. ⌜ declared-in r ≡ nothing ⌝ }
     {
         let ends = Pair { a: 0, b: 0 };
-        Lists {
+        Declarations {
             routers: ArrayVec::new(Router {
                 cluster: 0,
                 role: Role::Client,
@@ -73,8 +71,7 @@ impl Lists {
         one.role.is_client() && other.role.is_client() && one.cluster == other.cluster
     }
 
-    fn router(&mut self, place: usize, body: &[u8]) -> Result<(), TableFault>
-        requires { ⌜ length (now body) ≡ 2 ⌝ }
+    fn router(&mut self, place: usize, body: &[u8; 2]) -> Result<(), TableFault>
         ensures { λ r. ⌜ outcome r (declared-in (now (self .exit))) ≡ declaring (declared-in (now (self .entry))) place router-kind (now (body .entry)) ⌝ }
     {
         if self.routers.is_full() {
@@ -94,8 +91,7 @@ impl Lists {
         Ok(())
     }
 
-    fn link(&mut self, place: usize, body: &[u8]) -> Result<(), TableFault>
-        requires { ⌜ length (now body) ≡ 4 ⌝ }
+    fn link(&mut self, place: usize, body: &[u8; 4]) -> Result<(), TableFault>
         ensures { λ r. ⌜ outcome r (declared-in (now (self .exit))) ≡ declaring (declared-in (now (self .entry))) place link-kind (now (body .entry)) ⌝ }
     {
         if self.links.is_full() {
@@ -105,7 +101,7 @@ impl Lists {
             a: body[0],
             b: body[1],
         };
-        let metric = two_bytes(body, 2);
+        let metric = u16::from_be_bytes([body[2], body[3]]);
         if !self.declares(ends) || metric == 0 {
             return Err(TableFault::OutOfRange(place));
         }
@@ -116,8 +112,7 @@ impl Lists {
         Ok(())
     }
 
-    fn session(&mut self, place: usize, body: &[u8]) -> Result<(), TableFault>
-        requires { ⌜ length (now body) ≡ 2 ⌝ }
+    fn session(&mut self, place: usize, body: &[u8; 2]) -> Result<(), TableFault>
         ensures { λ r. ⌜ outcome r (declared-in (now (self .exit))) ≡ declaring (declared-in (now (self .entry))) place session-kind (now (body .entry)) ⌝ }
     {
         if self.sessions.is_full() {
@@ -140,8 +135,7 @@ impl Lists {
         Ok(())
     }
 
-    fn path(&mut self, place: usize, body: &[u8]) -> Result<(), TableFault>
-        requires { ⌜ length (now body) ≡ 20 ⌝ }
+    fn path(&mut self, place: usize, body: &[u8; 20]) -> Result<(), TableFault>
         ensures { λ r. ⌜ outcome r (declared-in (now (self .exit))) ≡ declaring (declared-in (now (self .entry))) place path-kind (now (body .entry)) ⌝ }
     {
         if self.paths.is_full() {
@@ -158,15 +152,14 @@ impl Lists {
             local_pref: four_bytes(body, 5),
             as_path_len,
             med: four_bytes(body, 10),
-            exit_cost: two_bytes(body, 14),
+            exit_cost: u16::from_be_bytes([body[14], body[15]]),
             speaker: four_bytes(body, 16),
         });
         Ok(())
     }
 
     // One record more, or the first rule that it breaks.
-    pub(crate) fn declare(&mut self, found: Placed) -> Result<(), TableFault>
-        requires { ⌜ length (body-in (found .record)) ≡ body-length (kind-in (found .record)) ⌝ }
+    pub fn declare(&mut self, found: Placed) -> Result<(), TableFault>
         ensures { λ r. ⌜ outcome r (declared-in (now (self .exit))) ≡ declaring (declared-in (now (self .entry))) (found .entry .place) (kind-in (found .entry .record)) (body-in (found .entry .record)) ⌝ }
     {
         match found.record {

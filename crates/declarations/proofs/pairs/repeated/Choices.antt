@@ -2,7 +2,7 @@ use mathlib.Core.List.{map}
 use mathlib.Core.Path.{_≡_}
 use lib.ListN.{drop}
 use Rattle.layout.specs.Checks.{repeats}
-use Rattle.tables.proofs.pairs.repeated.Given as given
+use Rattle.declarations.proofs.pairs.repeated.Given as given
 
 -- those that are left tell the same as all
 abbrev pub Inv-loop-one : given.InvT-loop-one
