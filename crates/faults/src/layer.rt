@@ -1,5 +1,5 @@
 // The part of the library that refuses.
-#[derive(Clone, Copy, PartialEq, Eq, Debug)]
+#[derive(Clone, Copy, Debug)]
 pub enum Layer {
     Record,
     Table,

@@ -2,17 +2,14 @@ ghost use mathlib.Core.Path.{_≡_};
 ghost use Rattle.faults.specs.Faults.{number-of, layer-of, place-of};
 use crate::graph::GraphFault;
 use crate::graph::GraphFaultDebug;
-use crate::graph::GraphFaultPartialEq;
 use crate::layer::Layer;
 use crate::record::RecordFault;
 use crate::record::RecordFaultDebug;
-use crate::record::RecordFaultPartialEq;
 use crate::table::TableFault;
 use crate::table::TableFaultDebug;
-use crate::table::TableFaultPartialEq;
 
 // Why a table is refused: the fault of a lower layer, whole.
-#[derive(Clone, Copy, PartialEq, Eq, Debug)]
+#[derive(Clone, Copy, Debug)]
 pub enum LoadFault {
     Record(RecordFault),
     Table(TableFault),

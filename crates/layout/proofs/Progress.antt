@@ -7,7 +7,7 @@ use native.Mathlib.Omega.{arith}
 use lib.ListN.{length, drop}
 use Rattle.std.specs.declared.result.Result.the-variants.{Ok, Err}
 use Rattle.std.proofs.shelf.Elements.{all-drop, all-take}
-use Rattle.std.proofs.shelf.Lists.{length-drop, length-take-le}
+use Rattle.std.proofs.shelf.Lists.{length-drop}
 use Rattle.faults.specs.declared.load.LoadFault.the-variants.{Record, Table}
 use Rattle.faults.specs.declared.record.RecordFault.{RecordFault}
 use Rattle.faults.specs.declared.table.TableFault.{TableFault}
@@ -41,12 +41,6 @@ begun bs bytes = record {
 found-in : (before place : ℕ) (rest : List ℕ) (p : ℕ) (k : Kind) (body : List ℕ) → reading-at before place rest ≡ found p k body → (b : ℕ) × (more : List ℕ) × (rest ≡ b ∷ more) × Found before place b more p k body
 found-in before place [] p k body e = absurd (ended-not-found p k body e)
 found-in before place (b ∷ more) p k body e = (b, more, refl, subst (Read before place b more) e (read before place b more))
-
--- the body of what was found is whole
-pub found-whole : (s : Standing) (p : ℕ) (k : Kind) (body : List ℕ) → found p k body ≡ reading s → length body ≡ body-length k
-found-whole s p k body e =
-    let f = found-in (s .before) (s .place) (s .rest) p k body (sym e) in
-    ap length (f .3 .cut) ∙ length-take-le (body-length k) (f .1) (f .3 .whole)
 
 -- less is left behind it
 pub found-less : (s : Standing) (p : ℕ) (k : Kind) (body : List ℕ) → found p k body ≡ reading s → length (passing s (found p k body) .rest) < length (s .rest)
