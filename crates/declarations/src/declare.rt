@@ -7,6 +7,7 @@ ghost use Rattle.layout.specs.Table.{nothing};
 ghost use Rattle.records.specs.Readings.{kind-in, body-in};
 ghost use Rattle.records.specs.declared.kind.Kind.the-variants.{Router as router-kind, Link as link-kind, Session as session-kind, Path as path-kind};
 ghost use Rattle.declarations.specs.Held.{declared-in, outcome};
+ghost use Rattle.std.specs.Vec.{refused};
 use crate::declarations::Declarations;
 use crate::numbers::four_bytes;
 use crate::pairs::LinkJoins;
@@ -72,7 +73,8 @@ impl Declarations {
     }
 
     fn router(&mut self, place: usize, body: &[u8; 2]) -> Result<(), TableFault>
-        ensures { λ r. ⌜ outcome r (declared-in (now (self .exit))) ≡ declaring (declared-in (now (self .entry))) place router-kind (now (body .entry)) ⌝ }
+        ensures value { λ r. ⌜ outcome r (declared-in (now (self .exit))) ≡ declaring (declared-in (now (self .entry))) place router-kind (now (body .entry)) ⌝ }
+        ensures kept { λ r. ⌜ refused r (λ _. declared-in (now (self .exit)) ≡ declared-in (now (self .entry))) ⌝ }
     {
         if self.routers.is_full() {
             return Err(TableFault::TooMany(place));
@@ -92,7 +94,8 @@ impl Declarations {
     }
 
     fn link(&mut self, place: usize, body: &[u8; 4]) -> Result<(), TableFault>
-        ensures { λ r. ⌜ outcome r (declared-in (now (self .exit))) ≡ declaring (declared-in (now (self .entry))) place link-kind (now (body .entry)) ⌝ }
+        ensures value { λ r. ⌜ outcome r (declared-in (now (self .exit))) ≡ declaring (declared-in (now (self .entry))) place link-kind (now (body .entry)) ⌝ }
+        ensures kept { λ r. ⌜ refused r (λ _. declared-in (now (self .exit)) ≡ declared-in (now (self .entry))) ⌝ }
     {
         if self.links.is_full() {
             return Err(TableFault::TooMany(place));
@@ -113,7 +116,8 @@ impl Declarations {
     }
 
     fn session(&mut self, place: usize, body: &[u8; 2]) -> Result<(), TableFault>
-        ensures { λ r. ⌜ outcome r (declared-in (now (self .exit))) ≡ declaring (declared-in (now (self .entry))) place session-kind (now (body .entry)) ⌝ }
+        ensures value { λ r. ⌜ outcome r (declared-in (now (self .exit))) ≡ declaring (declared-in (now (self .entry))) place session-kind (now (body .entry)) ⌝ }
+        ensures kept { λ r. ⌜ refused r (λ _. declared-in (now (self .exit)) ≡ declared-in (now (self .entry))) ⌝ }
     {
         if self.sessions.is_full() {
             return Err(TableFault::TooMany(place));
@@ -136,7 +140,8 @@ impl Declarations {
     }
 
     fn path(&mut self, place: usize, body: &[u8; 20]) -> Result<(), TableFault>
-        ensures { λ r. ⌜ outcome r (declared-in (now (self .exit))) ≡ declaring (declared-in (now (self .entry))) place path-kind (now (body .entry)) ⌝ }
+        ensures value { λ r. ⌜ outcome r (declared-in (now (self .exit))) ≡ declaring (declared-in (now (self .entry))) place path-kind (now (body .entry)) ⌝ }
+        ensures kept { λ r. ⌜ refused r (λ _. declared-in (now (self .exit)) ≡ declared-in (now (self .entry))) ⌝ }
     {
         if self.paths.is_full() {
             return Err(TableFault::TooMany(place));
@@ -160,7 +165,8 @@ impl Declarations {
 
     // One record more, or the first rule that it breaks.
     pub fn declare(&mut self, found: Placed) -> Result<(), TableFault>
-        ensures { λ r. ⌜ outcome r (declared-in (now (self .exit))) ≡ declaring (declared-in (now (self .entry))) (found .entry .place) (kind-in (found .entry .record)) (body-in (found .entry .record)) ⌝ }
+        ensures value { λ r. ⌜ outcome r (declared-in (now (self .exit))) ≡ declaring (declared-in (now (self .entry))) (found .entry .place) (kind-in (found .entry .record)) (body-in (found .entry .record)) ⌝ }
+        ensures kept { λ r. ⌜ refused r (λ _. declared-in (now (self .exit)) ≡ declared-in (now (self .entry))) ⌝ }
     {
         match found.record {
             Record::Router(body) => self.router(found.place, body),

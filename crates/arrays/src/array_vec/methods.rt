@@ -21,7 +21,7 @@ impl<T: Copy, const N: usize> ArrayVec<T, N> {
     pub fn len(&self) -> usize
         ensures { λ r. ⌜ r ≡ length (listed (now (self .entry))) ⌝ }
     {
-        self.len
+        self.as_slice().len()
     }
 
     // Whether there are `N` already.
@@ -36,7 +36,7 @@ impl<T: Copy, const N: usize> ArrayVec<T, N> {
         ensures test { λ r. ⌜ r ≡ ltb (length (listed (now (self .entry)))) N ⌝ }
         ensures after { λ r. ⌜ listed (now (self .exit)) ≡ cond r (listed (now (self .entry)) ++ x ∷ []) (listed (now (self .entry))) ⌝ }
     {
-        if self.len >= N {
+        if self.is_full() {
             return false;
         }
         self.items[self.len] = x;

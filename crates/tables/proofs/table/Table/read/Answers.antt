@@ -27,7 +27,7 @@ there c = ap (λ o. answered (Ok o)) (sym (c .in-Some .is)) ∙ c .in-Ok .ensure
 
 pub returns-in-Err-declare : need.returns-in-Err-declare
 returns-in-Err-declare c =
-    let value = breaks _ _ _ (c .loop-next .inv) _ _ _ (there (need.at·returns-in-Err-declare c .In-Some)) (c .in-Err-declare .fault) (c .in-Err-declare .ensures tt) in
+    let value = breaks _ _ _ (c .loop-next .inv) _ _ _ (there (need.at·returns-in-Err-declare c .In-Some)) (c .in-Err-declare .fault) (c .in-Err-declare .ensures tt .value) in
     record { value = value; promise = promised (c .args .bytes .now) _ (c .typed .bytes) value }
 
 -- the reader stands behind it
@@ -43,7 +43,7 @@ pub loop-next-again : need.loop-next-again
 loop-next-again c =
     let in-some = need.at·loop-next-again c .In-Some in
     subst (Progress (c .args .bytes .now) (declared-in (c .declare .last .self))) (sym (behind in-some))
-    (goes-on _ _ _ (c .loop-next .inv) _ _ _ (there in-some) (declared-in (c .declare .last .self)) (c .in-rest-declare .ensures tt))
+    (goes-on _ _ _ (c .loop-next .inv) _ _ _ (there in-some) (declared-in (c .declare .last .self)) (c .in-rest-declare .ensures tt .value))
 
 pub checked-requires : need.checked-requires
 checked-requires c κs = c .loop-next .inv .front .sound
