@@ -30,7 +30,7 @@ use Rattle.layout.specs.Table.{Declared}
 use Rattle.layout.specs.WellFormed.{Sound, WellFormed}
 use Rattle.layout.proofs.Adding.{Good, Added, added}
 use Rattle.layout.proofs.KindBytes.{kind-is, Found, Read, read}
-use Rattle.layout.proofs.Lengths.{encoded-near}
+use Rattle.layout.proofs.Lengths.{router-place-is, encoded-near}
 use Rattle.layout.proofs.Records.{Bytes}
 use Rattle.layout.proofs.Verdicts.{refused-lowest, DeclaringTells, declaring-tells}
 use Rattle.layout.proofs.Whole.{WholeTells, whole-tells}
@@ -52,8 +52,8 @@ module _ (bs : List ℕ) where
 
   graph-near : (t : Declared) → Sound t → (fault : GraphFault) → BreaksWhole t fault → place-of (Graph fault) ≤ 2272
   graph-near t s NoRouter h = omega arith
-  graph-near t s (NoReflector place) h = omega (arith, h .2, h .3 .0 .1 .0, s .few-routers)
-  graph-near t s (NotJoined place) h = omega (arith, h .3, h .4 .0 .0, s .few-routers)
+  graph-near t s (NoReflector place) h = omega (arith, h .2, router-place-is (t .routers) (h .1) (omega (arith, h .3 .0 .1 .0)), h .3 .0 .1 .0, s .few-routers)
+  graph-near t s (NotJoined place) h = omega (arith, h .3, router-place-is (t .routers) (h .2) (omega (arith, h .4 .0 .0)), h .4 .0 .0, s .few-routers)
 
   graph-told : (t : Declared) (s : Sound t) → bs ≡ encoded t → (r : Result Declared GraphFault) → WholeTells t s r → Tells (of-graph r)
   graph-told t s split (Ok u) h = (subst WellFormed (sym (h .0)) (h .1), split ∙ ap encoded (sym (h .0)))

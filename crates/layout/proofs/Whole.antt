@@ -31,6 +31,7 @@ use Rattle.layout.specs.declared.router.Router.{Router}
 use Rattle.layout.proofs.Chains.{Labellable, Labelled, labelled, chain-label}
 use Rattle.layout.proofs.Checks.{a-client, is-from}
 use Rattle.layout.proofs.Firsts.{First, first, first-none}
+use Rattle.layout.proofs.Lengths.{router-place-is}
 
 -- the test of one router: is it the reflector of c?
 abbrev reflects : ℕ → Router → Bool
@@ -139,8 +140,12 @@ module _ (t : Declared) (s : Sound t) where
       refl,
       record { sound = s; some-router = some; led = led-from (t .routers) f; connected = λ v lt. chain-from v 0 lt (h v 0 (omega (arith, row-length))) },
     )
-    graph-tells None (Some v) f h = (some, led-from (t .routers) f, v, refl, lowest-cut-off v h)
-    graph-tells (Some v) q f h = (some, v, refl, lowest-unled v f)
+    graph-tells None (Some v) f h =
+        let lowest = lowest-cut-off v h in
+        (some, led-from (t .routers) f, v, router-place-is (t .routers) v (omega (arith, lowest .0 .0)), lowest)
+    graph-tells (Some v) q f h =
+        let lowest = lowest-unled v f in
+        (some, v, router-place-is (t .routers) v (omega (arith, lowest .0 .1 .0)), lowest)
 
   pub whole-tells : WholeTells (whole t)
   whole-tells =
