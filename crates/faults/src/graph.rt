@@ -4,7 +4,7 @@ ghost use Rattle.faults.specs.declared.load.LoadFault.the-variants.{Graph as i
 use crate::layer::Layer;
 
 // What is wrong with the routers and links as a whole, and the offset of a router's record.
-#[derive(Clone, Copy, Debug)]
+#[derive(Clone, Copy)]
 pub enum GraphFault {
     // There is no router.
     NoRouter,

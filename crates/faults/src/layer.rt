@@ -1,5 +1,5 @@
 // The part of the library that refuses.
-#[derive(Clone, Copy, Debug)]
+#[derive(Clone, Copy)]
 pub enum Layer {
     Record,
     Table,

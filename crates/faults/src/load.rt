@@ -1,15 +1,12 @@
 ghost use mathlib.Core.Path.{_≡_};
 ghost use Rattle.faults.specs.Faults.{number-of, layer-of, place-of};
 use crate::graph::GraphFault;
-use crate::graph::GraphFaultDebug;
 use crate::layer::Layer;
 use crate::record::RecordFault;
-use crate::record::RecordFaultDebug;
 use crate::table::TableFault;
-use crate::table::TableFaultDebug;
 
 // Why a table is refused: the fault of a lower layer, whole.
-#[derive(Clone, Copy, Debug)]
+#[derive(Clone, Copy)]
 pub enum LoadFault {
     Record(RecordFault),
     Table(TableFault),

@@ -4,7 +4,7 @@ ghost use Rattle.faults.specs.declared.load.LoadFault.the-variants.{Record as 
 use crate::layer::Layer;
 
 // What is wrong with the bytes of a record, and the offset of its kind byte.
-#[derive(Clone, Copy, Debug)]
+#[derive(Clone, Copy)]
 pub enum RecordFault {
     // The first byte is no kind.
     UnknownKind(usize),

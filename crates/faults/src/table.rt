@@ -4,7 +4,7 @@ ghost use Rattle.faults.specs.declared.load.LoadFault.the-variants.{Table as i
 use crate::layer::Layer;
 
 // What is wrong with a whole record after those before it, and the offset of its kind byte.
-#[derive(Clone, Copy, Debug)]
+#[derive(Clone, Copy)]
 pub enum TableFault {
     // It is one more than the most of its kind.
     TooMany(usize),

@@ -13,7 +13,7 @@ use Rattle.std.proofs.shelf.Counted.{length-counting, getD-counting}
 use Rattle.std.proofs.shelf.Elements.{has-append-left, has-push, has-push-cases, all-has}
 use Rattle.std.proofs.shelf.Lists.{getD-map, length-map}
 use Rattle.std.proofs.shelf.Tests.{cases-eq, eq-eqb, ne-eqb, cond-true, cond-false}
-use Rattle.layout.specs.Graph.{relabelled, merged, merged-all, labels}
+use Rattle.layout.specs.Graph.{relabelled, merged, merged-all, Labellable, labels}
 use Rattle.layout.specs.WellFormed.{Same, Linked, Chain, stay, along}
 use Rattle.layout.specs.declared.link.Link.{Link}
 use Rattle.layout.specs.declared.link.Pair.{Pair}
@@ -41,10 +41,6 @@ chain-more {links} l (along a b c h rest) = along a b c (h .0, has-append-left l
 
 abbrev label : List ℕ → ℕ → ℕ
 label ls v = getD ls v 0
-
--- both ends have a label
-abbrev pub Labellable : Link → Type 0
-Labellable l = (l .ends .a < 32) × (l .ends .b < 32)
 
 -- routers have one label exactly if the links join them
 pub record Labelled (links : List Link) (ls : List ℕ) : Type 0 where

@@ -20,7 +20,7 @@ use Rattle.std.proofs.shelf.Ways.{decides-by-or, decides-like, not-from-decides
 use Rattle.faults.specs.declared.graph.GraphFault.{GraphFault}
 use Rattle.faults.specs.declared.graph.GraphFault.the-variants.{NoRouter, NoReflector, NotJoined}
 use Rattle.layout.specs.Checks.{is-client}
-use Rattle.layout.specs.Graph.{first-where, has-reflector, unled, labels, cut-off, router-place, graph-check, whole}
+use Rattle.layout.specs.Graph.{first-where, has-reflector, unled, Labellable, labels, cut-off, router-place, graph-check, whole}
 use Rattle.layout.specs.Promise.{Lowest, Unled, CutOff, BreaksWhole}
 use Rattle.layout.specs.Table.{Declared}
 use Rattle.layout.specs.WellFormed.{Is, client, reflector, Chain, Led, Connected, LinkFits, Sound, WellFormed}
@@ -28,7 +28,7 @@ use Rattle.layout.specs.declared.link.Link.{Link}
 use Rattle.layout.specs.declared.router.Role.{Role}
 use Rattle.layout.specs.declared.router.Role.the-variants.{Client, Reflector}
 use Rattle.layout.specs.declared.router.Router.{Router}
-use Rattle.layout.proofs.Chains.{Labellable, Labelled, labelled, chain-label}
+use Rattle.layout.proofs.Chains.{Labelled, labelled, chain-label}
 use Rattle.layout.proofs.Checks.{a-client, is-from}
 use Rattle.layout.proofs.Firsts.{First, first, first-none}
 use Rattle.layout.proofs.Lengths.{router-place-is}

@@ -1,7 +1,7 @@
 -- The checks of the routers and links as a whole. Assumes nothing.
 use mathlib.Core.Bool.{Bool, true, false, cond, not, _&&_, _||_}
 use mathlib.Core.List.{List, [], _∷_, map}
-use Prim.Native.Nat.{ℕ, _+_, _*_}
+use Prim.Native.Nat.{ℕ, _+_, _*_, _<_}
 use lib.Dec.{eqb}
 use lib.ListN.{length, getD, take}
 use Rattle.std.specs.Iters.{counting}
@@ -39,6 +39,10 @@ merged labels l = map (relabelled (getD labels (l .ends .b) 0) (getD labels (l .
 abbrev pub merged-all : List ℕ → List Link → List ℕ
 merged-all labels [] = labels
 merged-all labels (l ∷ links) = merged-all (merged labels l) links
+
+-- both ends of a link are numbers that have a label
+abbrev pub Labellable : Link → Type 0
+Labellable l = (l .ends .a < 32) × (l .ends .b < 32)
 
 -- routers that links join, and no others, have one label
 abbrev pub labels : List Link → List ℕ

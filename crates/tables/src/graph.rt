@@ -5,8 +5,8 @@ ghost use Prim.Native.Nat.{_≤_};
 ghost use lib.Dec.{eqb};
 ghost use lib.ListN.{take};
 ghost use Rattle.layout.specs.Checks.{is-client};
-ghost use Rattle.layout.specs.Graph.{first-where, has-reflector, unled, relabelled, labels, cut-off};
-ghost use Rattle.layout.proofs.Chains.{Labellable};
+ghost use Rattle.layout.specs.Graph.{first-where, has-reflector, unled, relabelled, Labellable, labels, cut-off};
+ghost use Rattle.std.specs.Iters.{counting};
 ghost use Rattle.std.specs.shelf.Lists.{All};
 use layout::Link;
 use layout::Router;
@@ -60,45 +60,23 @@ fn relabel(labels: &mut [u8], old: u8, new: u8)
     }
 }
 
+// Each router labelled by its own number.
+fn own_labels() -> [u8; 32]
+    ensures { λ r. ⌜ r ≡ counting 0 32 ⌝ }
+{
+    let mut labels = [0; 32];
+    for v in 0..32u8 {
+        labels[v as usize] = v;
+    }
+    labels
+}
+
 // Labels of the routers: one label for all that links join.
 fn labelled(links: &[Link]) -> [u8; 32]
     requires { ⌜ All Labellable (now links) ⌝ }
     ensures { λ r. ⌜ r ≡ labels (now (links .entry)) ⌝ }
 {
-    let mut labels: [u8; 32] = [
-        0,
-        1,
-        2,
-        3,
-        4,
-        5,
-        6,
-        7,
-        8,
-        9,
-        10,
-        11,
-        12,
-        13,
-        14,
-        15,
-        16,
-        17,
-        18,
-        19,
-        20,
-        21,
-        22,
-        23,
-        24,
-        25,
-        26,
-        27,
-        28,
-        29,
-        30,
-        31,
-    ];
+    let mut labels = own_labels();
     for link in links {
         let new = labels[link.ends.a as usize];
         let old = labels[link.ends.b as usize];

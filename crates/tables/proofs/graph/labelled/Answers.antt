@@ -3,9 +3,8 @@ use Prim.Native.Nat.{_+_}
 use lib.ListN.{drop, length}
 use Rattle.std.proofs.shelf.Elements.{all-getD}
 use Rattle.std.proofs.shelf.Lists.{at-drop-all, length-map}
-use Rattle.layout.specs.Graph.{merged-all, relabelled}
+use Rattle.layout.specs.Graph.{merged-all, Labellable}
 use Rattle.layout.specs.declared.link.Link.{Link}
-use Rattle.layout.proofs.Chains.{Labellable}
 use Rattle.layout.proofs.Loops.{merged-next}
 use Rattle.tables.proofs.graph.labelled.Needs as need
 

@@ -5,8 +5,7 @@ use lib.ListN.{length, take}
 use Rattle.std.specs.declared.option.Option.{Option}
 use Rattle.std.specs.declared.option.Option.the-variants.{Some, None}
 use Rattle.std.specs.shelf.Lists.{All}
-use Rattle.layout.specs.Graph.{first-where, unled, cut-off, labels}
-use Rattle.layout.proofs.Chains.{Labellable}
+use Rattle.layout.specs.Graph.{first-where, unled, Labellable, cut-off, labels}
 use Rattle.layout.proofs.Whole.{all-labellable, unled-below, cut-off-below, well-formed}
 use Rattle.declarations.specs.Held.{declared-in}
 use Rattle.tables.proofs.table.read.checked.Needs as need
