@@ -5,7 +5,7 @@
   tests/cases.py --write  writes both files from it
 
 What a table comes to is written here by hand, from docs/FORMAT.md and docs/REFUSALS.md: a refusal
-by its number and place, or the counts of what an accepted table declares.
+by its number and place, or the counts of what an accepted table declares and the last of each kind.
 """
 import itertools
 import struct
@@ -40,8 +40,19 @@ def refused(name, number, place, *records):
 
 
 def accepted(name, *records):
-    count = [sum(1 for r in records if r[0] == kind) for kind in (1, 2, 3, 4)]
-    CASES.append((name, b"".join(records), "%d routers, %d links, %d sessions, %d paths" % tuple(count)))
+    """The counts, and the fields of the last record of each kind."""
+    of_kind = [[r for r in records if r[0] == kind] for kind in (1, 2, 3, 4)]
+    lines = ["%d routers, %d links, %d sessions, %d paths" % tuple(map(len, of_kind))]
+    forms = [
+        (">xBB", "last router cluster %d role %d"),
+        (">xBBH", "last link %d %d metric %d"),
+        (">xBB", "last session %d %d"),
+        (">xBIIBIHI", "last path exit point %d AS %d preference %d length %d MED %d cost %d speaker %d"),
+    ]
+    for (form, text), last in zip(forms, of_kind):
+        if last:
+            lines.append(text % struct.unpack(form, last[-1]))
+    CASES.append((name, b"".join(records), "\n  ".join(lines)))
 
 
 # one reflector and its client, joined

@@ -1,17 +1,11 @@
 #!/usr/bin/env python3
-"""The README shows what the program prints for its example, and the toolchain that it is proved with."""
-import subprocess
+"""The README shows what the program prints for its example."""
 import sys
 import textwrap
 from pathlib import Path
 
 ROOT = Path(__file__).resolve().parent.parent
-readme = (ROOT / "README.md").read_text()
-shown = {
-    "the two-clusters report": textwrap.indent((ROOT / "examples" / "two-clusters.out").read_text(), "    "),
-    "the toolchain's line": subprocess.run(["rt", "version"], capture_output=True, text=True, check=True).stdout.strip(),
-}
-missing = [name for name, text in shown.items() if text not in readme]
-if missing:
-    sys.exit("README.md does not show " + ", ".join(missing))
-print("README.md shows " + " and ".join(shown))
+report = (ROOT / "examples" / "two-clusters.out").read_text()
+if textwrap.indent(report, "    ") not in (ROOT / "README.md").read_text():
+    sys.exit("README.md does not show what examples/two-clusters.out has")
+print("README.md shows what the program prints for its example")

@@ -3,6 +3,8 @@ ghost use mathlib.Core.Path.{_≡_};
 ghost use lib.ListN.{length};
 ghost use Rattle.cases.specs.Worked.{Holds, worked};
 ghost use Rattle.std.specs.shelf.Lists.{All};
+use layout::ExitPath;
+use layout::Pair;
 use std::alloc::AllocError;
 use std::alloc::Global;
 use std::error::AnyError;
@@ -50,6 +52,43 @@ fn spelled(heap: Global, text: &str) -> Result<Option<Vec<u8>>, AllocError> {
     Ok(Some(bytes))
 }
 
+// The last router, link, session and path, field by field.
+fn last_records(rt: &LibcRuntime, table: &Table) -> Result<(), AnyError> {
+    if let Some(router) = table.routers().last() {
+        let cluster = router.cluster;
+        let role = if router.role.is_client() { 0 } else { 1 };
+        println!(rt, "  last router cluster {cluster} role {role}")?;
+    }
+    if let Some(link) = table.links().last() {
+        let Pair { a, b } = link.ends;
+        let metric = link.metric;
+        println!(rt, "  last link {a} {b} metric {metric}")?;
+    }
+    if let Some(session) = table.sessions().last() {
+        let Pair { a, b } = session.ends;
+        println!(rt, "  last session {a} {b}")?;
+    }
+    if let Some(path) = table.paths().last() {
+        last_path(rt, *path)?;
+    }
+    Ok(())
+}
+
+fn last_path(rt: &LibcRuntime, path: ExitPath) -> Result<(), AnyError> {
+    let exit_point = path.exit_point;
+    let neighbour_as = path.neighbour_as;
+    let local_pref = path.local_pref;
+    let as_path_len = path.as_path_len;
+    let med = path.med;
+    let exit_cost = path.exit_cost;
+    let speaker = path.speaker;
+    println!(
+        rt,
+        "  last path exit point {exit_point} AS {neighbour_as} preference {local_pref} length {as_path_len} MED {med} cost {exit_cost} speaker {speaker}"
+    )?;
+    Ok(())
+}
+
 fn play(rt: &LibcRuntime, name: &str, bytes: &[u8]) -> Result<(), AnyError> {
     match Table::read(bytes) {
         Ok(table) => {
@@ -61,14 +100,15 @@ fn play(rt: &LibcRuntime, name: &str, bytes: &[u8]) -> Result<(), AnyError> {
                 rt,
                 "{name}: {routers} routers, {links} links, {sessions} sessions, {paths} paths"
             )?;
+            last_records(rt, &table)
         }
         Err(fault) => {
             let number = fault.number();
             let place = fault.place();
             println!(rt, "{name}: {number} at {place}")?;
+            Ok(())
         }
     }
-    Ok(())
 }
 
 // A line is a name, a colon and the bytes.

@@ -1,4 +1,4 @@
--- What the reading of a table promises, in the operator's words. Assumes nothing.
+-- What the reading of a table promises, in the terms of an operator. Assumes nothing.
 use mathlib.Core.Path.{_≡_}
 use mathlib.Core.List.{List, _∷_, _++_}
 use Prim.Native.Nat.{ℕ, _<_, _≤_}

@@ -1,4 +1,4 @@
--- When a table is well-formed, as an operator would say it. Assumes nothing.
+-- When a table is well-formed, in the terms of an operator. Assumes nothing.
 use mathlib.Core.Path.{_≡_}
 use mathlib.Core.List.{List, [], _∷_, map}
 use mathlib.Core.Logic.{_⊎_}

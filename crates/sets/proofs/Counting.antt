@@ -12,7 +12,7 @@ use lib.Count.{ones, ones-step, ones-cat}
 use lib.Dec.{eqb, ltb}
 use lib.Pow.{pow-pos, mod-pow-add}
 use Rattle.std.proofs.shelf.Tests.{eqb-true, eq-eqb, lt-ltb, cases-lt, both-ways, and-parts, and-from, or-left, or-right}
-use Rattle.sets.specs.Members.{member, membersBelow, Subset}
+use Rattle.sets.specs.Members.{member, members-below, Subset}
 use Rattle.sets.proofs.Digits.{member-zero, member-suc, half-below}
 use Rattle.sets.proofs.Same.{below-pow-left, below-pow-right}
 use Rattle.sets.proofs.Single.{member-without, and-one, or-without}
@@ -24,8 +24,8 @@ ones-digit (suc zero) h = refl
 ones-digit (suc (suc d)) h = absurd (omega arith)
 
 -- the members below n are those of the n lowest digits
-pub ones-low : (a n : ℕ) → ones (a % 2 ^ n) ≡ membersBelow a n
-unfolding member membersBelow ones
+pub ones-low : (a n : ℕ) → ones (a % 2 ^ n) ≡ members-below a n
+unfolding member members-below ones
 ones-low a zero = ap ones (mod-one a)
 ones-low a (suc n) =
     let d = a / 2 ^ n % 2 in
@@ -33,7 +33,7 @@ ones-low a (suc n) =
     ∙ ap₂ (λ (x y : ℕ). x + y) (ones-digit d (mod-lt (a / 2 ^ n) (zero-lt-suc 1))) (ones-low a n)
 
 -- a word of w digits has as many members as set digits
-pub ones-members : (w a : ℕ) → a < 2 ^ w → ones a ≡ membersBelow a w
+pub ones-members : (w a : ℕ) → a < 2 ^ w → ones a ≡ members-below a w
 ones-members w a h = ap ones (sym (mod-eq-of-lt h)) ∙ ones-low a w
 
 -- a union and what is shared have as many members as the two words
