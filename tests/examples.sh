@@ -1,5 +1,6 @@
 #!/usr/bin/env bash
-# Runs the program `settle` on each table of examples/ and holds what it prints to the file beside it.
+# Runs the program `settle` on the tables of examples/ and holds what it prints to the file beside each.
+# The gate itself runs the program on the table that stands in its crate, so that one is only compared.
 set -euo pipefail
 cd "$(dirname "$0")/.."
 
@@ -10,6 +11,7 @@ copy=$(mktemp -d)
 trap 'rm -rf "$copy"' EXIT
 cp -r crates crates.txt "$copy"
 for table in examples/*.table; do
+    [ "$table" != examples/two-clusters.table ] || continue
     cp "$table" "$copy/crates/settle/stdin"
     cp "${table%.table}.out" "$copy/crates/settle/stdout"
     echo "$table"
