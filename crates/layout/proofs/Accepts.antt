@@ -18,7 +18,7 @@ use Rattle.records.specs.declared.kind.Kind.{Kind}
 use Rattle.records.specs.declared.kind.Kind.the-variants.{Router as router-kind, Link as link-kind, Session as session-kind, Path as path-kind}
 use Rattle.layout.specs.Bodies.{byte, two, four, role-in, pair-in, router-in, link-in, session-in, path-in, adding}
 use Rattle.layout.specs.Checks.{out-of-range, bad-pair, bad-session, declaring}
-use Rattle.layout.specs.Encoding.{two-bytes, four-bytes, role-byte, router-bytes, link-bytes, session-bytes, path-bytes, encoded}
+use Rattle.layout.specs.Encoding.{two-bytes, four-bytes, role-byte, router-bytes, link-bytes, session-bytes, path-body, path-bytes, encoded}
 use Rattle.layout.specs.Graph.{whole}
 use Rattle.layout.specs.Reading.{of-graph, read-from, table-in}
 use Rattle.layout.specs.Rules.{most, count, OutOfRange, BadPair, BadSession}
@@ -33,7 +33,7 @@ use Rattle.layout.specs.declared.router.Router.{Router}
 use Rattle.layout.proofs.Checks.{decides-range, decides-pair, decides-session}
 use Rattle.layout.proofs.KindBytes.{reading-whole}
 use Rattle.layout.proofs.Numbers.{two-back, four-back}
-use Rattle.layout.proofs.Pairs.{Again, apart-new}
+use Rattle.layout.proofs.Pairs.{apart-new}
 use Rattle.layout.proofs.Steps.{read-on}
 use Rattle.layout.proofs.Whole.{whole-accepts}
 
@@ -128,9 +128,6 @@ module _ (rs : List Router) where
     module _ (ss : List Session) where
       abbrev PathsSound : List ExitPath → Type 0
       PathsSound ps = (length ps ≤ 64) × All (PathFits (length rs)) ps
-
-      abbrev path-body : ExitPath → List ℕ
-      path-body p = p .«exit_point» ∷ (four-bytes (p .«neighbour_as») ++ (four-bytes (p .«local_pref») ++ (p .«as_path_len» ∷ (four-bytes (p .med) ++ (two-bytes (p .«exit_cost») ++ four-bytes (p .speaker))))))
 
       path-back : (p : ExitPath) → path-in (path-body p) ≡ p
       path-back p = λ i. record {

@@ -7,7 +7,7 @@ use native.Mathlib.Omega.{arith}
 use lib.ListN.{length, getD}
 use Rattle.std.specs.Joined.{joined}
 use Rattle.std.specs.shelf.Lists.{All}
-use Rattle.std.proofs.shelf.Elements.{all-push, all-getD}
+use Rattle.std.proofs.shelf.Elements.{all-push}
 use Rattle.std.proofs.shelf.Lists.{joined-more, length-push, map-push}
 use Rattle.std.proofs.shelf.Tests.{cases-lt, cases-eq}
 use Rattle.std.proofs.shelf.Ways.{not-from-decides}
@@ -21,7 +21,7 @@ use Rattle.layout.specs.Table.{Declared}
 use Rattle.layout.specs.WellFormed.{Joins, ClientsOfOne, RouterFits, LinkFits, SessionFits, PathFits, link-ends, session-ends, Apart, Sound}
 use Rattle.layout.proofs.Checks.{decides-clients}
 use Rattle.layout.proofs.Pairs.{apart-push}
-use Rattle.layout.proofs.Records.{Bytes, router-bytes-in, link-bytes-in, session-bytes-in, path-bytes-in}
+use Rattle.layout.proofs.Records.{Bytes, at-byte, router-bytes-in, link-bytes-in, session-bytes-in, path-bytes-in}
 
 -- a session is between two clients of one cluster
 abbrev pub Local : Declared → Kind → List ℕ → Type 0
@@ -70,15 +70,12 @@ past-empty a x tail e = ap (λ l. (a ++ x) ++ l) e ∙ append-nil (a ++ x) ∙ a
 empty-both : (a b : List ℕ) → a ≡ [] → b ≡ [] → a ++ b ≡ []
 empty-both a b p q = λ i. p i ++ q i
 
-byte-at : (body : List ℕ) → Bytes body → (i : ℕ) → i < length body → byte body i < 256
-byte-at body bytes i lt = all-getD (λ b. b < 256) body i 0 lt bytes
-
 two-below : (body : List ℕ) → Bytes body → (i : ℕ) → i + 1 < length body → two body i < 2 ^ 16
-two-below body bytes i lt = omega (arith, byte-at body bytes i (omega arith), byte-at body bytes (i + 1) lt)
+two-below body bytes i lt = omega (arith, at-byte body bytes i (omega arith), at-byte body bytes (i + 1) lt)
 
 four-below : (body : List ℕ) → Bytes body → (i : ℕ) → i + 3 < length body → four body i < 2 ^ 32
 four-below body bytes i lt =
-    omega (arith, byte-at body bytes i (omega arith), byte-at body bytes (i + 1) (omega arith), byte-at body bytes (i + 2) (omega arith), byte-at body bytes (i + 3) lt)
+    omega (arith, at-byte body bytes i (omega arith), at-byte body bytes (i + 1) (omega arith), at-byte body bytes (i + 2) (omega arith), at-byte body bytes (i + 3) lt)
 
 below-from : (a b : ℕ) → (a ≤ b → ⊥) → b < a
 below-from a b h = ⊎-elim (λ lt. lt) (λ le. absurd (h le)) (cases-lt b a)
@@ -199,7 +196,7 @@ module _ (t : Declared) (body : List ℕ) (s : Sound t) where
             neighbour = four-below body (g .bytes) 1 (omega arith);
             preference = four-below body (g .bytes) 5 (omega arith);
             some-as = some-from (byte body 9) (λ h. g .range (inr h));
-            as-byte = byte-at body (g .bytes) 9 (omega arith);
+            as-byte = at-byte body (g .bytes) 9 (omega arith);
             med = four-below body (g .bytes) 10 (omega arith);
             cost = two-below body (g .bytes) 14 (omega arith);
             speaker = four-below body (g .bytes) 16 long;

@@ -13,7 +13,7 @@ use Rattle.std.proofs.shelf.Elements.{all-push, all-has, has-getD, has-append-r
 use Rattle.std.proofs.shelf.Tests.{leb-true, le-leb, eqb-true, eq-eqb, both-ways, cases-bool}
 use Rattle.std.proofs.shelf.Ways.{decides-eqb, decides-and, decides-or, decides-by-or, decides-like, not-from-decides}
 use Rattle.layout.specs.Checks.{same-pair, repeats, wrong-pair}
-use Rattle.layout.specs.Rules.{Wrong}
+use Rattle.layout.specs.Rules.{Again, Wrong}
 use Rattle.layout.specs.WellFormed.{Same, Apart}
 use Rattle.layout.specs.declared.link.Pair.{Pair}
 
@@ -26,10 +26,6 @@ decides-same p q = decides-or _ _ (decides-and _ _ (decides-eqb _ _) (decides-eq
 pub same-back : (p q : Pair) → Same p q → Same q p
 same-back p q (inl h) = inl (sym (h .0), sym (h .1))
 same-back p q (inr h) = inr (sym (h .1), sym (h .0))
-
--- p is one of the pairs again
-abbrev pub Again : Pair → List Pair → Type 0
-Again p ps = (q : Pair) × Has ps q × Same p q
 
 pub decides-repeats : (p : Pair) (ps : List Pair) → Decides (repeats p ps) (Again p ps)
 decides-repeats p ps =

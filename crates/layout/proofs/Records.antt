@@ -23,7 +23,7 @@ role-byte-in b lt =
     ⊎-elim (λ e. ap (λ x. role-byte (role-in x)) e ∙ sym e) (λ ne. let z : b ≡ 0 = omega arith in ap (λ x. role-byte (role-in x)) z ∙ sym z) (cases-eq b 1)
 
 module _ (body : List ℕ) (bytes : Bytes body) where
-  at-byte : (i : ℕ) → i < length body → byte body i < 256
+  pub at-byte : (i : ℕ) → i < length body → byte body i < 256
   at-byte i lt = all-getD (λ b. b < 256) body i 0 lt bytes
 
   two-at : (i : ℕ) → i + 1 < length body → two-bytes (two body i) ≡ byte body i ∷ byte body (i + 1) ∷ []

@@ -31,9 +31,12 @@ link-bytes l = 2 ∷ l .ends .a ∷ l .ends .b ∷ two-bytes (l .metric)
 abbrev pub session-bytes : Session → List ℕ
 session-bytes s = 3 ∷ s .ends .a ∷ s .ends .b ∷ []
 
+abbrev pub path-body : ExitPath → List ℕ
+path-body p =
+    p .«exit_point» ∷ (four-bytes (p .«neighbour_as») ++ (four-bytes (p .«local_pref») ++ (p .«as_path_len» ∷ (four-bytes (p .med) ++ (two-bytes (p .«exit_cost») ++ four-bytes (p .speaker))))))
+
 abbrev pub path-bytes : ExitPath → List ℕ
-path-bytes p =
-    4 ∷ p .«exit_point» ∷ (four-bytes (p .«neighbour_as») ++ (four-bytes (p .«local_pref») ++ (p .«as_path_len» ∷ (four-bytes (p .med) ++ (two-bytes (p .«exit_cost») ++ four-bytes (p .speaker))))))
+path-bytes p = 4 ∷ path-body p
 
 -- routers, then links, then sessions, then paths
 abbrev pub encoded : Declared → List ℕ

@@ -44,9 +44,13 @@ OutOfRange t Link body = (length (t .routers) ≤ byte body 0) ⊎ ((length (t .
 OutOfRange t Session body = (length (t .routers) ≤ byte body 0) ⊎ (length (t .routers) ≤ byte body 1)
 OutOfRange t Path body = (length (t .routers) ≤ byte body 0) ⊎ (byte body 9 ≡ 0)
 
+-- p is one of the pairs again
+abbrev pub Again : Pair → List Pair → Type 0
+Again p earlier = (q : Pair) × Has earlier q × Same p q
+
 -- a pair joins a router to itself, or is an earlier pair again
 abbrev pub Wrong : Pair → List Pair → Type 0
-Wrong p earlier = (p .a ≡ p .b) ⊎ ((q : Pair) × Has earlier q × Same p q)
+Wrong p earlier = (p .a ≡ p .b) ⊎ Again p earlier
 
 abbrev pub BadPair : Declared → Kind → List ℕ → Type 0
 BadPair t Router body = ⊥
@@ -61,7 +65,7 @@ BadSession t Link body = ⊥
 BadSession t Session body = ClientsOfOne (t .routers) (pair-in body) → ⊥
 BadSession t Path body = ⊥
 
--- the byte begins a record of kind k, whose body, as far as there are bytes, is P
+-- byte b begins a record, and P holds of its kind and of its body, as far as there are bytes
 abbrev pub OfKind : ℕ → List ℕ → (Kind → List ℕ → Type 0) → Type 0
 OfKind b more P = (k : Kind) × (kind-of b ≡ Some k) × P k (take (body-length k) more)
 
