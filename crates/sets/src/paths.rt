@@ -128,7 +128,7 @@ impl PathSet {
 
     // The least member, if there is one.
     pub fn least(self) -> Option<u32>
-        ensures { λ r. ⌜ Cases r (Empty (self .0)) (λ m. Least (self .0) m) ⌝ }
+        ensures { λ r. ⌜ Cases r (Empty (self .0)) (λ m. Least (self .0) m × (m < 64)) ⌝ }
     {
         if self.0 == 0 {
             None

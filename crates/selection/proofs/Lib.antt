@@ -1,0 +1,13 @@
+pub mod AllLaws
+pub mod DeclaredPart
+pub mod ExtremeLaws
+pub mod Extremes
+pub mod Gathered
+pub mod NeighbourLaws
+pub mod Neighbours
+pub mod Parting
+pub mod Picking
+pub mod PlainTerms
+pub mod RuleLaws
+pub mod SteadyLaws
+pub mod Taking
