@@ -1,11 +1,12 @@
 #!/usr/bin/env python3
-"""The tables that the program `cases` plays, each with what it must come to.
+"""The tables and sets that the program `cases` plays, each with what it must come to.
 
   tests/cases.py          holds crates/cases/stdin and crates/cases/stdout to this list
   tests/cases.py --write  writes both files from it
 
 What a table comes to is written here by hand, from docs/FORMAT.md and docs/REFUSALS.md: a refusal
 by its number and place, or the counts of what an accepted table declares and the last of each kind.
+What each rule keeps of a set is written here by hand too, from docs/RULES.md.
 """
 import itertools
 import struct
@@ -13,7 +14,7 @@ import sys
 from pathlib import Path
 
 ROOT = Path(__file__).resolve().parent.parent / "crates" / "cases"
-PROVED = 4
+PROVED = 8
 
 CLIENT, REFLECTOR = 0, 1
 CASES = []
@@ -35,8 +36,13 @@ def path(exit_point, neighbour_as=100, local_pref=100, as_path_len=2, med=0, exi
     return struct.pack(">BBIIBIHI", 4, exit_point, neighbour_as, local_pref, as_path_len, med, exit_cost, speaker)
 
 
+def spell(records):
+    """The bytes of a table in hexadecimal, with a space before each."""
+    return "".join(f" {byte:02X}" for byte in b"".join(records))
+
+
 def refused(name, number, place, *records):
-    CASES.append((name, b"".join(records), f"{number} at {place}"))
+    CASES.append((name, spell(records), f" {number} at {place}"))
 
 
 def accepted(name, *records):
@@ -52,7 +58,15 @@ def accepted(name, *records):
     for (form, text), last in zip(forms, of_kind):
         if last:
             lines.append(text % struct.unpack(form, last[-1]))
-    CASES.append((name, b"".join(records), "\n  ".join(lines)))
+    CASES.append((name, spell(records), " " + "\n  ".join(lines)))
+
+
+def keeps(name, paths, asked, five_stage, compare_always, declared=None):
+    """What each rule keeps of a set of numbers, where one router declares these paths; `All` keeps the declared ones."""
+    word = sum(1 << p for p in asked)
+    kept = {"all": asked if declared is None else declared, "five-stage": five_stage, "compare-always": compare_always}
+    result = "".join(f"\n  {rule}" + "".join(f" {p}" for p in numbers) for rule, numbers in kept.items())
+    CASES.append((name, f"{spell([router(0, REFLECTOR), *paths])}; {word:016X}", result))
 
 
 # one reflector and its client, joined
@@ -68,6 +82,8 @@ MESH = [link(a, b) for a, b in PAIRS[:128]]
 TALKS = [session(a, b) for a, b in itertools.combinations(range(1, 32), 2)][:64]
 MANY = [path(p % 32, speaker=p) for p in range(64)]
 FULL = CROWD + MESH + TALKS + MANY
+# every number of a set of paths
+ALL = range(64)
 
 # the worked table
 accepted("worked table", *HEADS, *LINKS, *EXITS)
@@ -175,10 +191,52 @@ accepted("the longest table", *FULL)
 refused("one byte behind the longest table", 1, 2272, *FULL, b"\x05")
 refused("one path behind the longest table", 4, 2272, *FULL, path(0))
 
+# what the rules keep of the worked table's paths
+SOLE = [path(0, 100, med=5, speaker=9), path(0, 100, med=0, speaker=8), path(0, 200, med=7, exit_cost=3, speaker=7)]
+keeps("of all three paths", SOLE, [0, 1, 2], [1, 2], [1])
+keeps("of the first and the last", SOLE, [0, 2], [0, 2], [0])
+keeps("of the first two", SOLE, [0, 1], [1], [1])
+keeps("of the last two", SOLE, [1, 2], [1, 2], [1])
+for p in range(3):
+    keeps(f"of path {p} alone", SOLE, [p], [p], [p])
+keeps("of no path", SOLE, [], [], [])
+# numbers that are not declared
+keeps("of every number", SOLE, ALL, [1, 2], [1], [0, 1, 2])
+keeps("of undeclared numbers alone", SOLE, [3, 4, 63], [], [], [])
+keeps("of one path and the number behind the last", SOLE, [0, 3], [0], [0], [0])
+keeps("of every number where no path is declared", [], ALL, [], [], [])
+keeps("of no number where no path is declared", [], [], [], [])
+# each stage decides before those behind it
+keeps("a higher preference beats a shorter path and a lower MED", [path(0, local_pref=9, as_path_len=9, med=9), path(0, local_pref=8, as_path_len=1, med=0)], [0, 1], [0], [0])
+keeps("a shorter path beats a lower MED", [path(0, as_path_len=2, med=9), path(0, as_path_len=3, med=0)], [0, 1], [0], [0])
+keeps("a shorter path through another neighbour beats a longer one", [path(0, 1, as_path_len=3), path(0, 2, as_path_len=2)], [0, 1], [1], [1])
+keeps("a longer path hides no MED", [path(0, as_path_len=2, med=9), path(0, as_path_len=3, med=0), path(0, as_path_len=2, med=8)], [0, 1, 2], [2], [2])
+keeps("MED through another neighbour", [path(0, 1, med=9), path(0, 2, med=0)], [0, 1], [0, 1], [1])
+keeps("MED within each of two neighbours", [path(0, 1, med=9), path(0, 2, med=3), path(0, 1, med=8), path(0, 2, med=4)], range(4), [1, 2], [1])
+keeps("neighbours that take turns", [path(0, p % 3, med=p // 3) for p in range(9)], range(9), [0, 1, 2], [0, 1, 2])
+keeps("the speaker, the exit cost and the number decide nothing", [path(0, exit_cost=c, speaker=s) for c, s in ((0, 9), (7, 1), (3, 5))], range(3), range(3), range(3))
+# 64 paths
+keeps("64 equal paths", [path(0)] * 64, ALL, ALL, ALL)
+keeps("64 preferences, the highest last", [path(0, local_pref=p) for p in ALL], ALL, [63], [63])
+keeps("64 preferences, the highest first", [path(0, local_pref=99 - p) for p in ALL], ALL, [0], [0])
+keeps("64 lengths, the shortest last", [path(0, as_path_len=64 - p) for p in ALL], ALL, [63], [63])
+keeps("64 MEDs of one neighbour, the lowest last", [path(0, med=63 - p) for p in ALL], ALL, [63], [63])
+keeps("64 MEDs of 64 neighbours", [path(0, p, med=63 - p) for p in ALL], ALL, ALL, [63])
+keeps("64 neighbours, all else equal", [path(0, p) for p in ALL], ALL, ALL, ALL)
+keeps("two of each of 32 neighbours, the lower MED second", [path(0, p // 2, med=1 - p % 2) for p in ALL], ALL, range(1, 64, 2), range(1, 64, 2))
+keeps("the last path alone", [path(0, local_pref=99 - p) for p in ALL], [63], [63], [63])
+# ties at the ends of the range
+TOP = 2**32 - 1
+keeps("ties at the largest values", [path(0, TOP, TOP, 255, TOP), path(0, TOP, TOP, 255, TOP), path(0, TOP, TOP - 1, 255, 0)], [0, 1, 2], [0, 1], [0, 1])
+keeps("the largest MED and one below", [path(0, TOP, med=TOP), path(0, TOP, med=TOP - 1)], [0, 1], [1], [1])
+keeps("ties at the smallest values", [path(0, 0, 0, 1, 0), path(0, 0, 0, 1, 0), path(0, 0, 0, 2, 0)], [0, 1, 2], [0, 1], [0, 1])
+keeps("the largest and the smallest preference", [path(0, local_pref=0), path(0, local_pref=TOP)], [0, 1], [1], [1])
+keeps("the largest and the smallest neighbour", [path(0, 0, med=TOP), path(0, TOP, med=TOP)], [0, 1], [0, 1], [0, 1])
+
 
 def texts():
-    stdin = "".join(f"{name}: {table.hex(' ').upper()}".rstrip() + "\n" for name, table, _ in CASES)
-    stdout = f"{PROVED} worked cases are proved\n" + "".join(f"{name}: {result}\n" for name, _, result in CASES)
+    stdin = "".join(f"{name}:{given}\n" for name, given, _ in CASES)
+    stdout = f"{PROVED} worked cases are proved\n" + "".join(f"{name}:{result}\n" for name, _, result in CASES)
     return {"stdin": stdin, "stdout": stdout}
 
 
@@ -190,7 +248,7 @@ def main():
             (ROOT / file).write_text(text)
         elif not (ROOT / file).is_file() or (ROOT / file).read_text() != text:
             sys.exit(f"crates/cases/{file} is not what tests/cases.py lists: run tests/cases.py --write")
-    print(f"{len(CASES)} tables for the program `cases`")
+    print(f"{len(CASES)} lines for the program `cases`")
 
 
 main()

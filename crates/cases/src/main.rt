@@ -1,10 +1,18 @@
-// Plays tables written in hexadecimal, a line each, and prints what each comes to.
+// Plays tables written in hexadecimal, a line each, and prints what each comes to; of a line with a set
+// of paths behind the table, what each rule keeps of the set.
 ghost use mathlib.Core.Path.{_≡_};
 ghost use lib.ListN.{length};
 ghost use Rattle.cases.specs.Worked.{Holds, worked};
 ghost use Rattle.std.specs.shelf.Lists.{All};
 use layout::ExitPath;
 use layout::Pair;
+use rules::AllRule;
+use rules::CompareAlways;
+use rules::CompareAlwaysRule;
+use rules::FiveStage;
+use rules::FiveStageRule;
+use rules::Rule;
+use sets::PathSet;
 use std::alloc::AllocError;
 use std::alloc::Global;
 use std::error::AnyError;
@@ -15,7 +23,7 @@ fn worked_cases() -> usize
     ensures hold { λ _. ⌜ All Holds worked ⌝ }
     ensures count { λ r. ⌜ r ≡ length worked ⌝ }
 {
-    4
+    8
 }
 
 // The value of a hexadecimal digit.
@@ -89,9 +97,33 @@ fn last_path(rt: &LibcRuntime, path: ExitPath) -> Result<(), AnyError> {
     Ok(())
 }
 
-fn play(rt: &LibcRuntime, name: &str, bytes: &[u8]) -> Result<(), AnyError> {
+fn numbers(rt: &LibcRuntime, set: PathSet) -> Result<(), AnyError> {
+    for p in 0..u64::BITS {
+        if set.contains(p) {
+            print!(rt, " {p}")?;
+        }
+    }
+    println!(rt, "")?;
+    Ok(())
+}
+
+// What each rule keeps of a set.
+fn keep(rt: &LibcRuntime, paths: &[ExitPath], set: PathSet) -> Result<(), AnyError> {
+    print!(rt, "  all")?;
+    numbers(rt, rules::All.keep(paths, set))?;
+    print!(rt, "  five-stage")?;
+    numbers(rt, FiveStage.keep(paths, set))?;
+    print!(rt, "  compare-always")?;
+    numbers(rt, CompareAlways.keep(paths, set))
+}
+
+fn play(rt: &LibcRuntime, name: &str, bytes: &[u8], set: Option<PathSet>) -> Result<(), AnyError> {
     match Table::read(bytes) {
         Ok(table) => {
+            if let Some(set) = set {
+                println!(rt, "{name}:")?;
+                return keep(rt, table.paths(), set);
+            }
             let routers = table.routers().len();
             let links = table.links().len();
             let sessions = table.sessions().len();
@@ -111,15 +143,38 @@ fn play(rt: &LibcRuntime, name: &str, bytes: &[u8]) -> Result<(), AnyError> {
     }
 }
 
-// A line is a name, a colon and the bytes.
+// The set whose word a text spells in eight bytes, the highest first.
+fn set(heap: Global, text: &str) -> Result<Option<PathSet>, AllocError> {
+    let Some(bytes) = spelled(heap, text)? else {
+        return Ok(None);
+    };
+    match bytes.as_slice() {
+        &[a, b, c, d, e, f, g, h] => {
+            let bits = u64::from_be_bytes([a, b, c, d, e, f, g, h]);
+            Ok(Some(PathSet::from_bits(bits)))
+        }
+        _ => Ok(None),
+    }
+}
+
+// A line is a name, a colon and the bytes, and where rules are asked a semicolon and a set.
 fn line(rt: &LibcRuntime, text: &str) -> Result<(), AnyError> {
-    let Some((name, bytes)) = text.split_once(':') else {
+    let Some((name, rest)) = text.split_once(':') else {
         return Err("a line without a colon".into());
     };
-    let Some(bytes) = spelled(rt.alloc(), bytes)? else {
+    let mut table = rest;
+    let mut asked = None;
+    if let Some((bytes, word)) = rest.split_once(';') {
+        table = bytes;
+        asked = set(rt.alloc(), word)?;
+        if asked.is_none() {
+            return Err("a line whose set is not eight bytes".into());
+        }
+    }
+    let Some(bytes) = spelled(rt.alloc(), table)? else {
         return Err("a line that spells no bytes".into());
     };
-    play(rt, name, bytes.as_slice())
+    play(rt, name, bytes.as_slice(), asked)
 }
 
 fn run(rt: &LibcRuntime) -> Result<(), AnyError> {

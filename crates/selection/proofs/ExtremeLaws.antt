@@ -15,7 +15,7 @@ use Rattle.selection.specs.declared.criterion.Criterion.{Criterion}
 use Rattle.selection.specs.Laws.{AllDeclared, Keeping, Laws}
 use Rattle.selection.specs.Stages.{extremes, keep-extreme}
 use Rattle.selection.proofs.DeclaredPart.{all-declared-part}
-use Rattle.selection.proofs.Extremes.{extremes-within, extremes-nonempty, extremes-heritage, extremes-part}
+use Rattle.selection.proofs.Extremes.{extremes-within, extremes-nonempty, extremes-heritage, extremes-inside}
 
 pub extreme-laws : (c : Criterion) {below : Keeping} → Laws below → Laws (keep-extreme c below)
 extreme-laws c {below} laws = record {
@@ -23,7 +23,7 @@ extreme-laws c {below} laws = record {
   nonempty = λ xs s declared none. extremes-nonempty c xs s declared (laws .nonempty xs (extremes c xs s) (picked xs s declared) none);
   heritage = λ xs s p declared inside k here kept.
       let top = laws .within xs (extremes c xs s) (picked xs s declared) k kept in
-      laws .heritage xs (extremes c xs s) (extremes c xs p) (picked xs s declared) (extremes-part c xs s p k inside here top) k
+      laws .heritage xs (extremes c xs s) (extremes c xs p) (picked xs s declared) (extremes-inside c xs s p k inside here top) k
       (extremes-heritage c xs s p inside k here top) kept;
   outcast = outcast;
 }
@@ -45,6 +45,6 @@ extreme-laws c {below} laws = record {
           | inr some ↦
               let e = some-member kept (omega arith) in
               let top = laws .within xs (extremes c xs s) (picked xs s declared) (e .0) (e .1) in
-              laws .outcast xs (extremes c xs s) (extremes c xs p) (picked xs s declared) (extremes-part c xs s p (e .0) inside (holds (e .0) (e .1)) top)
+              laws .outcast xs (extremes c xs s) (extremes c xs p) (picked xs s declared) (extremes-inside c xs s p (e .0) inside (holds (e .0) (e .1)) top)
               (λ k m. extremes-heritage c xs s p inside k (holds k m) (laws .within xs (extremes c xs s) (picked xs s declared) k m))
         ]

@@ -155,8 +155,8 @@ extremes-heritage c xs s p inside k here m =
     extremes-in c xs p k (from .0 .0, here) (λ q l held. from .1 q l (inside q held))
 
 -- where a part of s has one extreme e of s, its extremes are extremes of s
-pub extremes-part : (c : Criterion) (xs : List ExitPath) (s p e : ℕ) → Subset p s → member p e ≡ true → member (extremes c xs s) e ≡ true → Subset (extremes c xs p) (extremes c xs s)
-extremes-part c xs s p e inside here m k held =
+pub extremes-inside : (c : Criterion) (xs : List ExitPath) (s p e : ℕ) → Subset p s → member p e ≡ true → member (extremes c xs s) e ≡ true → Subset (extremes c xs p) (extremes c xs s)
+extremes-inside c xs s p e inside here m k held =
     let top = extremes-from c xs s e m in
     let from = extremes-from c xs p k held in
     extremes-in c xs s k (from .0 .0, inside k (from .0 .1))

@@ -48,10 +48,11 @@ extremes c xs s = those (λ p. member s p && not (beaten c xs s p)) (length xs)
 abbrev pub through : List ExitPath → ℕ → ℕ → ℕ
 through xs s as-number = those (λ p. member s p && eqb (path-at xs p .«neighbour_as») as-number) (length xs)
 
+-- the whole set
 abbrev pub keep-all : Keeping
 keep-all xs s = s
 
--- what the rule below keeps of the extremes
+-- what the rule below keeps of the best by one criterion
 abbrev pub keep-extreme : Criterion → Keeping → Keeping
 keep-extreme c below xs s = below xs (extremes c xs s)
 
@@ -59,8 +60,10 @@ keep-extreme c below xs s = below xs (extremes c xs s)
 abbrev pub keep-per-neighbour : Keeping → Keeping
 keep-per-neighbour below xs s = joined (λ p. below xs (through xs s (path-at xs p .«neighbour_as»))) s (length xs)
 
+-- preference, then length, then for each neighbour AS the MED
 abbrev pub keep-five-stage : Keeping
 keep-five-stage = keep-extreme HighestPreference (keep-extreme ShortestAsPath (keep-per-neighbour (keep-extreme LowestMed keep-all)))
 
+-- preference, then length, then the MED
 abbrev pub keep-compare-always : Keeping
 keep-compare-always = keep-extreme HighestPreference (keep-extreme ShortestAsPath (keep-extreme LowestMed keep-all))

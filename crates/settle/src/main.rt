@@ -2,6 +2,10 @@
 use faults::LoadFault;
 use faults::LoadFaultDisplay;
 use layout::Role;
+use rules::FiveStage;
+use rules::FiveStageRule;
+use rules::advertised;
+use sets::PathSet;
 use std::error::AnyError;
 use std::io::Read;
 use tables::Table;
@@ -13,6 +17,24 @@ fn role_name(role: Role) -> &'static str {
     }
 }
 
+// How many of the declared paths the five-stage rule keeps, and which.
+fn kept(rt: &LibcRuntime, table: &Table) -> Result<(), AnyError> {
+    let paths = table.paths();
+    let declared = paths.len();
+    let kept = advertised(&FiveStage, paths, PathSet::first(u64::BITS));
+    let count = kept.len();
+    print!(rt, "five-stage keeps {count} of {declared} exit paths")?;
+    let mut mark = ':';
+    for p in 0..u64::BITS {
+        if kept.contains(p) {
+            print!(rt, "{mark} P{p}")?;
+            mark = ',';
+        }
+    }
+    println!(rt, "")?;
+    Ok(())
+}
+
 // A line a router: its cluster, its role and how many exit paths it has.
 fn report(rt: &LibcRuntime, table: &Table) -> Result<(), AnyError> {
     for (v, router) in table.routers().iter().enumerate() {
@@ -21,7 +43,7 @@ fn report(rt: &LibcRuntime, table: &Table) -> Result<(), AnyError> {
         let exits = table.exits_at(v as u32).len();
         println!(rt, "R{v} cluster {cluster} {role} exit paths {exits}")?;
     }
-    Ok(())
+    kept(rt, table)
 }
 
 // The number and the place, and on standard error the reason in words.

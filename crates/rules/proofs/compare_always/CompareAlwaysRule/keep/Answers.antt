@@ -12,5 +12,5 @@ pub returns : need.returns
 returns c =
     let xs = c .args .paths .now in
     let s = c .args .set .0 in
-    let value : c .keep .result .0 ≡ keep-compare-always xs (declared-of xs s) = rw (c .new .ensures, c .new-length .ensures, c .new-med .ensures) at (c .keep .ensures) in
+    let value : c .keep .result .0 ≡ keep-compare-always xs (declared-of xs s) = simp (c .new .ensures, c .new-length .ensures, c .new-med .ensures) at (c .keep .ensures) in
     record { value = value; plain = subst (λ (w : ℕ). (p : ℕ) → Decides (member w p) (CompareAlwaysKeeps xs s p)) (sym value) (compare-always-plain xs s) }

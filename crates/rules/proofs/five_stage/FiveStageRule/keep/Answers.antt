@@ -12,5 +12,5 @@ pub returns : need.returns
 returns c =
     let xs = c .args .paths .now in
     let s = c .args .set .0 in
-    let value : c .keep .result .0 ≡ keep-five-stage xs (declared-of xs s) = rw (c .new-2 .ensures, c .new-length .ensures, c .new .ensures, c .new-med .ensures) at (c .keep .ensures) in
+    let value : c .keep .result .0 ≡ keep-five-stage xs (declared-of xs s) = simp (c .new-2 .ensures, c .new-length .ensures, c .new .ensures, c .new-med .ensures) at (c .keep .ensures) in
     record { value = value; plain = subst (λ (w : ℕ). (p : ℕ) → Decides (member w p) (FiveStageKeeps xs s p)) (sym value) (five-stage-plain xs s) }
