@@ -20,3 +20,4 @@ pub use five_stage::FiveStageRule;
 pub use per_neighbour::PerNeighbour;
 pub use per_neighbour::PerNeighbourRule;
 pub use rule::Rule;
+pub use selection::Criterion;

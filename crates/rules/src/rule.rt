@@ -8,6 +8,7 @@ pub trait Rule {
     // What the rule keeps of a set of declared paths.
     ghost kept: { Self → Keeping };
 
+    // The laws of what it keeps.
     ghost laws: { (rule : Self) → Laws (kept rule) };
 
     // What is kept of the declared paths of a set; all other numbers are dropped first.
