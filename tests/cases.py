@@ -191,7 +191,7 @@ accepted("the longest table", *FULL)
 refused("one byte behind the longest table", 1, 2272, *FULL, b"\x05")
 refused("one path behind the longest table", 4, 2272, *FULL, path(0))
 
-# what the rules keep of the worked table's paths
+# what the rules keep of the worked table's paths, here all at one router
 SOLE = [path(0, 100, med=5, speaker=9), path(0, 100, med=0, speaker=8), path(0, 200, med=7, exit_cost=3, speaker=7)]
 keeps("of all three paths", SOLE, [0, 1, 2], [1, 2], [1])
 keeps("of the first and the last", SOLE, [0, 2], [0, 2], [0])

@@ -20,19 +20,19 @@ pub data Case : Type 0 where
   -- of these paths of the worked table, the rule keeps these
   keeps : Keeping → List ℕ → List ℕ → Case
 
--- two reflectors with one client each, and three exit paths
+-- two reflectors with one client each, and three exit paths: of each record the kind, and then the body
 abbrev pub worked-table : List ℕ
 worked-table =
-    0x01 ∷ 0x00 ∷ 0x01
-    ∷ 0x01 ∷ 0x00 ∷ 0x00
-    ∷ 0x01 ∷ 0x01 ∷ 0x01
-    ∷ 0x01 ∷ 0x01 ∷ 0x00
-    ∷ 0x02 ∷ 0x00 ∷ 0x01 ∷ 0x00 ∷ 0x0A
-    ∷ 0x02 ∷ 0x00 ∷ 0x02 ∷ 0x00 ∷ 0x01
-    ∷ 0x02 ∷ 0x02 ∷ 0x03 ∷ 0x00 ∷ 0x04
-    ∷ 0x04 ∷ 0x01 ∷ 0 ∷ 0 ∷ 0 ∷ 100 ∷ 0 ∷ 0 ∷ 0 ∷ 100 ∷ 2 ∷ 0 ∷ 0 ∷ 0 ∷ 5 ∷ 0 ∷ 0 ∷ 0 ∷ 0 ∷ 0 ∷ 9
-    ∷ 0x04 ∷ 0x03 ∷ 0 ∷ 0 ∷ 0 ∷ 100 ∷ 0 ∷ 0 ∷ 0 ∷ 100 ∷ 2 ∷ 0 ∷ 0 ∷ 0 ∷ 0 ∷ 0 ∷ 0 ∷ 0 ∷ 0 ∷ 0 ∷ 8
-    ∷ 0x04 ∷ 0x01 ∷ 0 ∷ 0 ∷ 0 ∷ 200 ∷ 0 ∷ 0 ∷ 0 ∷ 100 ∷ 2 ∷ 0 ∷ 0 ∷ 0 ∷ 7 ∷ 0 ∷ 3 ∷ 0 ∷ 0 ∷ 0 ∷ 7
+    0x01 ∷ 0 ∷ 1
+    ∷ 0x01 ∷ 0 ∷ 0
+    ∷ 0x01 ∷ 1 ∷ 1
+    ∷ 0x01 ∷ 1 ∷ 0
+    ∷ 0x02 ∷ 0 ∷ 1 ∷ 0 ∷ 10
+    ∷ 0x02 ∷ 0 ∷ 2 ∷ 0 ∷ 1
+    ∷ 0x02 ∷ 2 ∷ 3 ∷ 0 ∷ 4
+    ∷ 0x04 ∷ 1 ∷ 0 ∷ 0 ∷ 0 ∷ 100 ∷ 0 ∷ 0 ∷ 0 ∷ 100 ∷ 2 ∷ 0 ∷ 0 ∷ 0 ∷ 5 ∷ 0 ∷ 0 ∷ 0 ∷ 0 ∷ 0 ∷ 9
+    ∷ 0x04 ∷ 3 ∷ 0 ∷ 0 ∷ 0 ∷ 100 ∷ 0 ∷ 0 ∷ 0 ∷ 100 ∷ 2 ∷ 0 ∷ 0 ∷ 0 ∷ 0 ∷ 0 ∷ 0 ∷ 0 ∷ 0 ∷ 0 ∷ 8
+    ∷ 0x04 ∷ 1 ∷ 0 ∷ 0 ∷ 0 ∷ 200 ∷ 0 ∷ 0 ∷ 0 ∷ 100 ∷ 2 ∷ 0 ∷ 0 ∷ 0 ∷ 7 ∷ 0 ∷ 3 ∷ 0 ∷ 0 ∷ 0 ∷ 7
     ∷ []
 
 -- the number and the place of a refusal

@@ -97,6 +97,7 @@ fn last_path(rt: &LibcRuntime, path: ExitPath) -> Result<(), AnyError> {
     Ok(())
 }
 
+// The members of a set, and the end of the line.
 fn numbers(rt: &LibcRuntime, set: PathSet) -> Result<(), AnyError> {
     for p in 0..u64::BITS {
         if set.contains(p) {

@@ -1,5 +1,5 @@
 -- The declared paths of a set. Assumes nothing.
-use mathlib.Core.Path.{_≡_, sym, ap, _∙_}
+use mathlib.Core.Path.{_≡_, sym, ap, subst, _∙_}
 use mathlib.Core.Bool.{Bool, true, _&&_}
 use mathlib.Core.List.{List}
 use mathlib.Core.Logic.{inl, inr}
@@ -29,6 +29,10 @@ declared-in xs s p o = member-declared xs s p ∙ and-from (member s p) (ltb p (
 
 pub declared-all : (xs : List ExitPath) (s : ℕ) → AllDeclared xs (declared-of xs s)
 declared-all xs s p m = declared-from xs s p m .0
+
+-- a word that is the declared part of a set
+pub declared-word : (xs : List ExitPath) (s w : ℕ) → w ≡ declared-of xs s → AllDeclared xs w
+declared-word xs s w is = subst (AllDeclared xs) (sym is) (declared-all xs s)
 
 -- of a set of declared paths nothing is dropped
 pub declared-same : (xs : List ExitPath) (s : ℕ) → AllDeclared xs s → declared-of xs s ≡ s

@@ -1,5 +1,5 @@
 -- The paths of a set than which none of it is better. Assumes nothing.
-use mathlib.Core.Path.{_≡_, refl, sym, ap, _∙_}
+use mathlib.Core.Path.{_≡_, sym, ap, _∙_}
 use mathlib.Core.Bool.{Bool, true, false, not, _&&_}
 use mathlib.Core.List.{List}
 use mathlib.Core.Logic.{_⊎_, inl, inr}
@@ -7,14 +7,15 @@ use Prim.Native.Nat.{ℕ, zero, suc, _<_}
 use native.Mathlib.Omega.{arith}
 use lib.Dec.{ltb}
 use lib.ListN.{length}
-use Rattle.std.proofs.shelf.Tests.{and-parts, and-from, and-cases, and-right, both-ways, cases-bool, cases-eq, ltb-true, lt-ltb, not-true, not-false, not-from-false}
+use Rattle.std.proofs.shelf.Tests.{and-parts, and-from, and-cases, and-right, both-ways, cases-bool, cases-eq, ltb-true, lt-ltb, not-true, not-from-false}
 use Rattle.std.proofs.shelf.Ways.{tells}
+use Rattle.layout.specs.Table.{path-at}
 use Rattle.layout.specs.declared.path.ExitPath.{ExitPath}
 use Rattle.sets.specs.Members.{member, Empty, Subset}
 use Rattle.selection.specs.declared.criterion.Criterion.{Criterion}
 use Rattle.selection.specs.declared.criterion.Criterion.the-variants.{HighestPreference, ShortestAsPath, LowestMed}
 use Rattle.selection.specs.Laws.{AllDeclared, Offered}
-use Rattle.selection.specs.Stages.{path-at, better, beaten, extremes}
+use Rattle.selection.specs.Stages.{better, beaten, extremes}
 use Rattle.selection.proofs.Gathered.{member-those, some-none, some-false}
 
 -- better is a strict order whose ties are alike

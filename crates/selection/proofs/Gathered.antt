@@ -1,10 +1,9 @@
 -- Sets and tests gathered over the numbers below a bound. Assumes nothing.
 use mathlib.Core.Path.{_≡_, refl, sym, ap, ap₂, _∙_}
-use mathlib.Core.Bool.{Bool, true, false, cond, _&&_, _||_}
+use mathlib.Core.Bool.{Bool, true, false, cond, _&&_, _||_, and-false, and-true}
 use mathlib.Core.Logic.{inl, inr}
 use Prim.Native.Nat.{ℕ, zero, suc, _^_, _<_}
 use native.Mathlib.Omega.{arith}
-use lib.Bits.{bitOr}
 use lib.Dec.{eqb, ltb}
 use Rattle.std.proofs.shelf.Tests.{cases-eq, cases-bool, both-ways, or-cases, or-parts, or-left, or-right}
 use Rattle.std.proofs.shelf.Ways.{tells}
@@ -15,16 +14,8 @@ use Rattle.sets.proofs.Single.{member-one}
 use Rattle.selection.specs.Stages.{those, some, joined}
 
 member-cond : (t : Bool) (n k : ℕ) → member (cond t (2 ^ n) 0) k ≡ (eqb k n && t)
-member-cond true n k = member-one n k ∙ and-yes (eqb k n)
-  where
-    and-yes : (b : Bool) → b ≡ (b && true)
-    and-yes true = refl
-    and-yes false = refl
-member-cond false n k = member-none k ∙ and-no (eqb k n)
-  where
-    and-no : (b : Bool) → false ≡ (b && false)
-    and-no true = refl
-    and-no false = refl
+member-cond true n k = member-one n k ∙ sym (and-true (eqb k n))
+member-cond false n k = member-none k ∙ sym (and-false (eqb k n))
 
 one-more : (test : ℕ → Bool) (n k : ℕ) → ((ltb k n && test k) || (eqb k n && test n)) ≡ (ltb k (suc n) && test k)
 one-more test n k =

@@ -11,7 +11,7 @@ use Rattle.sets.proofs.Subsets.{same-from-subsets}
 use Rattle.selection.specs.Laws.{AllDeclared, Keeping, Laws}
 use Rattle.selection.specs.Stages.{through, keep-per-neighbour}
 use Rattle.selection.proofs.DeclaredPart.{all-declared-part}
-use Rattle.selection.proofs.Neighbours.{neighbour, through-in, through-from, through-mono, through-within, through-declared, neighbour-has, neighbour-from}
+use Rattle.selection.proofs.Neighbours.{neighbour, through-in, through-from, through-mono, through-declared, neighbour-has, neighbour-from}
 
 pub per-neighbour-laws : {below : Keeping} → Laws below → Laws (keep-per-neighbour below)
 per-neighbour-laws {below} laws = record {

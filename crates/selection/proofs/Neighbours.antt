@@ -1,16 +1,16 @@
 -- The paths of a set through one neighbour AS, and what is kept per neighbour. Assumes nothing.
-use mathlib.Core.Path.{_≡_, refl, sym, ap, _∙_}
-use mathlib.Core.Bool.{Bool, true, false, _&&_}
+use mathlib.Core.Path.{_≡_, sym, ap, _∙_}
+use mathlib.Core.Bool.{true, _&&_}
 use mathlib.Core.List.{List}
-use mathlib.Core.Logic.{inl, inr}
-use Prim.Native.Nat.{ℕ, _<_}
+use Prim.Native.Nat.{ℕ}
 use lib.Dec.{eqb, ltb}
 use lib.ListN.{length}
 use Rattle.std.proofs.shelf.Tests.{and-parts, and-from, ltb-true, lt-ltb, eqb-true, eq-eqb}
+use Rattle.layout.specs.Table.{path-at}
 use Rattle.layout.specs.declared.path.ExitPath.{ExitPath}
-use Rattle.sets.specs.Members.{member, Empty, Subset}
+use Rattle.sets.specs.Members.{member, Subset}
 use Rattle.selection.specs.Laws.{AllDeclared, Keeping, Laws, Offered}
-use Rattle.selection.specs.Stages.{path-at, through, joined, keep-per-neighbour}
+use Rattle.selection.specs.Stages.{through, keep-per-neighbour}
 use Rattle.selection.proofs.DeclaredPart.{all-declared-part}
 use Rattle.selection.proofs.Gathered.{member-those, joined-has, joined-from}
 

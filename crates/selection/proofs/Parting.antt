@@ -1,11 +1,10 @@
 -- The paths of a set are parted by neighbour AS, one neighbour after another. Assumes nothing.
 use mathlib.Core.Path.{_≡_, refl, sym, ap, subst, _∙_}
-use mathlib.Core.Bool.{Bool, true, false, not, _&&_, _||_}
+use mathlib.Core.Bool.{Bool, true, false, not, _&&_, _||_, and-false}
 use mathlib.Core.List.{List}
-use mathlib.Core.Logic.{_⊎_, inl, inr}
+use mathlib.Core.Logic.{inl, inr}
 use Prim.Native.Nat.{ℕ, _<_}
 use lib.Count.{ones}
-use lib.ListN.{length}
 use Rattle.std.proofs.shelf.Tests.{and-cases, and-from, and-parts, both-ways, cases-bool, not-true, not-false, not-from-false, or-cases, or-left, or-right}
 use Rattle.layout.specs.declared.path.ExitPath.{ExitPath}
 use Rattle.sets.specs.Members.{member, Empty, Subset}
@@ -14,7 +13,7 @@ use Rattle.sets.proofs.Subsets.{same-from-subsets, subset-refl}
 use Rattle.selection.specs.Laws.{AllDeclared, Keeping, Laws, declared-of}
 use Rattle.selection.specs.Stages.{through, keep-per-neighbour}
 use Rattle.selection.proofs.DeclaredPart.{declared-same}
-use Rattle.selection.proofs.Neighbours.{neighbour, neighbour-from, neighbour-has, through-declared, through-from, through-in, through-within}
+use Rattle.selection.proofs.Neighbours.{neighbour, neighbour-from, neighbour-has, through-declared, through-from, through-in}
 use Rattle.selection.proofs.Taking.{Put, Seen, Taken, put-cases, put-in, put-still, taken-cases, taken-out, taken-still, taken-within}
 
 -- of the numbers of s that are no longer in rest, `found` has the paths through the neighbour AS a
@@ -101,11 +100,7 @@ module _ {below : Keeping} (laws : Laws below) (xs : List ExitPath) (s : ℕ) (d
     more k = put k ∙ ap (λ (w : ℕ). member kept k || member w k) asked
 
     out : (j : ℕ) → member (through xs s (neighbour xs p)) j ≡ true → member r j ≡ false
-    out j m = less j ∙ ap (λ (b : Bool). member rest j && not b) m ∙ none (member rest j)
-      where
-        none : (b : Bool) → (b && false) ≡ false
-        none true = refl
-        none false = refl
+    out j m = less j ∙ ap (λ (b : Bool). member rest j && not b) m ∙ and-false (member rest j)
 
     stays : (j : ℕ) → member rest j ≡ false → member r j ≡ false
     stays j m = less j ∙ ap (λ (b : Bool). b && not (member (through xs s (neighbour xs p)) j)) m

@@ -1,14 +1,14 @@
 -- The best paths of a set are found in one pass. Assumes nothing.
 use mathlib.Core.Path.{_≡_, refl, sym, ap, subst, _∙_}
-use mathlib.Core.Bool.{Bool, true, false}
+use mathlib.Core.Bool.{true}
 use mathlib.Core.List.{List}
 use mathlib.Core.Logic.{inl, inr}
 use Prim.Native.Nat.{ℕ, _-_, _^_, _≤_, _<_}
 use native.Mathlib.Omega.{arith}
 use lib.Dec.{ltb}
-use lib.ListN.{length}
 use Rattle.std.proofs.shelf.Tests.{both-ways, ltb-false, le-ltb}
 use Rattle.std.proofs.shelf.Ways.{tells}
+use Rattle.layout.specs.Table.{path-at}
 use Rattle.layout.specs.declared.path.ExitPath.{ExitPath}
 use Rattle.sets.specs.Members.{member, Empty, Subset}
 use Rattle.sets.proofs.Subsets.{same-from-subsets, subset-refl}
@@ -16,7 +16,7 @@ use Rattle.selection.specs.declared.criterion.Criterion.{Criterion}
 use Rattle.selection.specs.declared.criterion.Criterion.the-variants.{HighestPreference, ShortestAsPath, LowestMed}
 use Rattle.selection.specs.Laws.{AllDeclared}
 use Rattle.selection.specs.Ranks.{compared, rank}
-use Rattle.selection.specs.Stages.{path-at, better, extremes}
+use Rattle.selection.specs.Stages.{better, extremes}
 use Rattle.selection.proofs.Extremes.{extremes-from, extremes-in}
 use Rattle.selection.proofs.Taking.{Put, Seen, Taken, put-cases, put-in, put-still, taken-cases, taken-out, taken-still, taken-within}
 

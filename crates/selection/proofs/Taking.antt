@@ -5,7 +5,7 @@ use mathlib.Core.Logic.{_⊎_, inl, inr}
 use Prim.Native.Nat.{ℕ, _<_}
 use lib.Dec.{eqb, ltb}
 use Rattle.std.proofs.shelf.Tests.{and-parts, and-from, and-left, cases-eq, eq-eqb, eqb-true, ne-eqb, lt-ltb, or-cases, or-left, or-right}
-use Rattle.sets.specs.Members.{member, Empty, Subset}
+use Rattle.sets.specs.Members.{member, Subset}
 
 -- j is in s and no longer in rest
 abbrev pub Seen : ℕ → ℕ → ℕ → Type 0

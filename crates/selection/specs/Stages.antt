@@ -1,19 +1,16 @@
 -- What each rule keeps. Assumes nothing.
-use mathlib.Core.Bool.{Bool, true, false, not, cond, _&&_, _||_}
+use mathlib.Core.Bool.{Bool, false, not, cond, _&&_, _||_}
 use mathlib.Core.List.{List}
 use Prim.Native.Nat.{ℕ, zero, suc, _-_, _^_}
 use lib.Bits.{bitOr}
 use lib.Dec.{eqb, ltb}
-use lib.ListN.{length, getD}
+use lib.ListN.{length}
+use Rattle.layout.specs.Table.{path-at}
 use Rattle.layout.specs.declared.path.ExitPath.{ExitPath}
 use Rattle.selection.specs.declared.criterion.Criterion.{Criterion}
 use Rattle.selection.specs.declared.criterion.Criterion.the-variants.{HighestPreference, ShortestAsPath, LowestMed}
 use Rattle.selection.specs.Laws.{Keeping}
 use Rattle.sets.specs.Members.{member}
-
--- the path of a number; past the last declared one it is never asked for
-abbrev pub path-at : List ExitPath → ℕ → ExitPath
-path-at xs p = getD xs p (record { «exit_point» = 0; «neighbour_as» = 0; «local_pref» = 0; «as_path_len» = 0; med = 0; «exit_cost» = 0; speaker = 0 })
 
 -- the set of the numbers below n that pass a test
 unfoldable pub those : (ℕ → Bool) → ℕ → ℕ

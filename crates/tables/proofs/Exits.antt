@@ -6,17 +6,18 @@ use mathlib.Core.Logic.{⊎-elim}
 use Prim.Native.Nat.{ℕ, zero, suc, _+_, _<_, _≤_}
 use native.Mathlib.Omega.{arith}
 use lib.Dec.{eqb, ltb}
-use lib.ListN.{length, getD}
+use lib.ListN.{length}
 use Rattle.std.proofs.shelf.Tests.{cases-lt, lt-ltb, le-ltb, and-left}
 use Rattle.std.proofs.shelf.Ways.{tells}
 use Rattle.std.proofs.shelf.Tests.{cases-eq}
+use Rattle.layout.specs.Table.{path-at}
 use Rattle.layout.specs.declared.path.ExitPath.{ExitPath}
 use Rattle.tables.specs.Exits.{leaves-at}
 
-pub leaves-here : (v : ℕ) (xs : List ExitPath) (i : ℕ) (d : ExitPath) → i < length xs → leaves-at v xs i ≡ eqb (getD xs i d .«exit_point») v
-leaves-here v [] i d lt = absurd (omega arith)
-leaves-here v (x ∷ xs) zero d lt = refl
-leaves-here v (x ∷ xs) (suc i) d lt = leaves-here v xs i d (omega arith)
+pub leaves-here : (v : ℕ) (xs : List ExitPath) (i : ℕ) → i < length xs → leaves-at v xs i ≡ eqb (path-at xs i .«exit_point») v
+leaves-here v [] i lt = absurd (omega arith)
+leaves-here v (x ∷ xs) zero lt = refl
+leaves-here v (x ∷ xs) (suc i) lt = leaves-here v xs i (omega arith)
 
 leaves-past : (v : ℕ) (xs : List ExitPath) (p : ℕ) → length xs ≤ p → leaves-at v xs p ≡ false
 leaves-past v [] p le = refl

@@ -1,15 +1,13 @@
-use borrow.Author.Needs.{needs}
-use mathlib.Core.Path.{_≡_, sym, ap, subst, _∙_}
-use Prim.Native.Nat.{ℕ}
-use Rattle.selection.specs.Laws.{AllDeclared, declared-of}
+use mathlib.Core.Path.{ap, _∙_}
+use Rattle.selection.specs.Laws.{declared-of}
 use Rattle.selection.specs.Stages.{extremes}
-use Rattle.selection.proofs.DeclaredPart.{all-declared-part, declared-all, declared-same}
+use Rattle.selection.proofs.DeclaredPart.{all-declared-part, declared-all, declared-same, declared-word}
 use Rattle.selection.proofs.Extremes.{extremes-within}
 use Rattle.rules.proofs.extreme.ExtremeRule.keep.Needs as need
 
 pub extremes-picked-requires : need.extremes-picked-requires
 extremes-picked-requires g c κs =
-    subst (AllDeclared (c .args .paths .now)) (sym (c .declared-of .ensures)) (declared-all (c .args .paths .now) (c .args .set .0))
+    declared-word (c .args .paths .now) (c .args .set .0) (c .declared-of .result .0) (c .declared-of .ensures)
 
 pub returns : need.returns
 returns g c =

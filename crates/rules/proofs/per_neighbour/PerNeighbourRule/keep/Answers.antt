@@ -1,15 +1,8 @@
-use mathlib.Core.Path.{_≡_, sym, ap, subst, _∙_}
-use mathlib.Core.List.{List}
-use Prim.Native.Nat.{ℕ}
-use Rattle.layout.specs.declared.path.ExitPath.{ExitPath}
-use Rattle.selection.specs.Laws.{AllDeclared, declared-of}
+use mathlib.Core.Path.{ap, _∙_}
 use Rattle.selection.specs.Stages.{keep-per-neighbour}
-use Rattle.selection.proofs.DeclaredPart.{declared-all}
+use Rattle.selection.proofs.DeclaredPart.{declared-word}
 use Rattle.selection.proofs.Parting.{parted-begins, parted-more, parted-fewer, parted-ends}
 use Rattle.rules.proofs.per_neighbour.PerNeighbourRule.keep.Needs as need
-
-declared-word : (xs : List ExitPath) (s w : ℕ) → w ≡ declared-of xs s → AllDeclared xs w
-declared-word xs s w is = subst (AllDeclared xs) (sym is) (declared-all xs s)
 
 pub loop-p-holds : need.loop-p-holds
 loop-p-holds g c = parted-begins (g .R·Rule .kept (c .args .self .now .below)) (c .args .paths .now) (c .declared-of-rest .result .0) (c .empty-kept .result .0) (c .empty-kept .ensures .members)

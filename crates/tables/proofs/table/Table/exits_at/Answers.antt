@@ -2,7 +2,6 @@ use mathlib.Core.Path.{_≡_, sym, ap, _∙_}
 use Prim.Native.Nat.{ℕ, _<_}
 use native.Mathlib.Omega.{arith}
 use Rattle.std.proofs.shelf.Tests.{eq-eqb, ne-eqb}
-use Rattle.layout.specs.declared.path.ExitPath.{ExitPath}
 use Rattle.sets.specs.Members.{member}
 use Rattle.sets.specs.declared.paths.PathSet.{PathSet}
 use Rattle.tables.specs.Exits.{leaves-at}
@@ -10,17 +9,13 @@ use Rattle.tables.proofs.Exits.{leaves-here, exits-with, exits-without, exits-
 use Rattle.tables.proofs.table.Table.exits_at.Needs as need
 use Rattle.tables.proofs.table.Table.exits_at.Needs.{then-path-router, else-path-router}
 
-unread : ExitPath
-unread = record { «exit_point» = 0; «neighbour_as» = 0; «local_pref» = 0; «as_path_len» = 0; med = 0; «exit_cost» = 0; speaker = 0 }
-
 pub loop-p-again : need.loop-p-again
-unfolding unread
 loop-p-again c =
     let v = c .args .router in
     let xs = c .paths-paths .result .now in
     let i = c .loop-p .p in
     let within : i < 64 = omega (arith, c .loop-p-test .taken, c .paths-paths .ensures .few) in
-    let here = leaves-here v xs i unread (c .loop-p-test .taken) in
+    let here = leaves-here v xs i (c .loop-p-test .taken) in
     elim (c .if-path-router .came) [
       | then-path-router w ↦ λ k.
           ap (λ (s : PathSet). member (s .0) k) (w .exits-is) ∙ w .with-exits .ensures .members k ∙ exits-with (leaves-at v xs) i within (here ∙ eq-eqb _ _ (w .if-path-router .taken)) k _ (c .loop-p .inv k)
