@@ -1,4 +1,6 @@
 // A list of bounded length in memory of its own.
+#![tactic(auto)]
+
 mod array_vec;
 
 pub use array_vec::ArrayVec;

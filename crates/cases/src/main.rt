@@ -1,5 +1,7 @@
 // Plays tables written in hexadecimal, a line each, and prints what each comes to; of a line with a set
 // of paths behind the table, what each rule keeps of the set.
+#![tactic(auto)]
+
 ghost use Rattle.std.specs.Prelude.{◌≡◌, length, All};
 ghost use Rattle.cases.specs.Worked.{Holds, worked};
 

@@ -1,4 +1,6 @@
 // A table, and the least distance from each of its routers to each other.
+#![tactic(auto)]
+
 mod distances;
 mod matrix;
 

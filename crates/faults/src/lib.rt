@@ -1,4 +1,6 @@
 // Why a table or a call is refused. Every fault has a number, a layer and a place, and an upper layer's fault holds a lower one's whole.
+#![tactic(auto)]
+
 mod call;
 mod display;
 mod graph;

@@ -1,4 +1,6 @@
 // Where a router sends its traffic: its best path, the next hop, and the way of a packet.
+#![tactic(auto)]
+
 mod best_path;
 mod hops;
 mod offer;

@@ -1,4 +1,6 @@
 // What a table declares, and what its bytes mean: the types, the definitions and the theorems about them.
+#![tactic(auto)]
+
 mod link;
 mod path;
 mod router;

@@ -1,4 +1,6 @@
 // Which paths a router advertises of those it knows: the interface of a rule, its laws, and the rules.
+#![tactic(auto)]
+
 mod advertise;
 mod all;
 mod compare_always;

@@ -1,4 +1,6 @@
 // What a rule keeps of a set of paths: the definitions, the laws and the theorems about them.
+#![tactic(auto)]
+
 mod criterion;
 
 pub use criterion::Criterion;

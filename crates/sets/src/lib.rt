@@ -2,6 +2,8 @@
 //
 // Every method is defined for every argument. A number past the width of the word is no member of
 // any set: asking for it answers no, and adding or taking it changes nothing.
+#![tactic(auto)]
+
 mod paths;
 mod routers;
 

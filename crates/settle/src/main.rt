@@ -1,4 +1,6 @@
 // Reads a table from standard input and reports what is in it, or why it is refused.
+#![tactic(auto)]
+
 use faults::LoadFault;
 use layout::Role;
 use rules::{FiveStage, advertised};
