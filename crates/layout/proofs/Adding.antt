@@ -1,7 +1,7 @@
 -- One record more: the table stays sound, and its bytes are those before and the record's. Assumes nothing.
 use Rattle.std.proofs.Common.{◌≡◌, ℕ, ◌+◌, ◌*◌, ◌^◌, ◌<◌, ◌≤◌, ◌⊎◌, List, [], ◌∷◌, ◌++◌, map, length, get_or, All, sym, refl, ap, ◌∙◌, subst, inl, inr, ⊎_elim, append_assoc, append-nil, arith}
 use Rattle.std.specs.List.{flat_map}
-use Rattle.std.proofs.lemmas.List.Elements.{All-push}
+use Rattle.std.proofs.lemmas.List.Elements.{All-nil, All-push}
 use Rattle.std.proofs.lemmas.List.{flat_map_more, length_push, map_push}
 use Rattle.std.proofs.lemmas.Bool.{cases_lt, cases_eq}
 use Rattle.std.proofs.lemmas.Bool.Decides.{not_from_Decides}
@@ -104,11 +104,11 @@ module _ (t : Declared) (body : List ℕ) (s : Sound t) where
           few_sessions = s.few_sessions;
           few_paths = s.few_paths;
           routers_fit = All-push RouterFits t.routers (router_in body) s.routers_fit (below_from 32 (byte body 0) (λ h. g.range (inl h)));
-          links_fit = subst (All (LinkFits (length (t.routers ++ router_in body ∷ [])))) (sym no_links.0) tt;
+          links_fit = subst (All (LinkFits (length (t.routers ++ router_in body ∷ [])))) (sym no_links.0) (All-nil (LinkFits (length (t.routers ++ router_in body ∷ []))));
           links_apart = s.links_apart;
-          sessions_fit = subst (All (SessionFits (t.routers ++ router_in body ∷ []))) (sym no_sessions.0) tt;
+          sessions_fit = subst (All (SessionFits (t.routers ++ router_in body ∷ []))) (sym no_sessions.0) (All-nil (SessionFits (t.routers ++ router_in body ∷ [])));
           sessions_apart = s.sessions_apart;
-          paths_fit = subst (All (PathFits (length (t.routers ++ router_in body ∷ [])))) (sym no_paths.0) tt;
+          paths_fit = subst (All (PathFits (length (t.routers ++ router_in body ∷ [])))) (sym no_paths.0) (All-nil (PathFits (length (t.routers ++ router_in body ∷ []))));
         };
         bytes =
             ap (λ l. l ++ (LB ++ (SB ++ PB))) (joined_push router_bytes t.routers (router_in body))

@@ -1,5 +1,5 @@
 -- What is merely known of a table is known. Assumes nothing.
-use Rattle.std.proofs.Common.{◌≡◌, ℕ, ◌≤◌, Bool, true, List, [], ◌∷◌, map, length, Ok, Err, Decides, All, Result, refl, arith}
+use Rattle.std.proofs.Common.{◌≡◌, ℕ, ◌≤◌, Bool, true, List, [], ◌∷◌, map, length, get_or, Ok, Err, Decides, All, Result, refl, arith}
 use mathlib.Core.Bool.{Bool-set}
 use mathlib.Core.HLevel.{⊥_prop}
 use mathlib.Core.Logic.{∥∥₁_elim, ∥∥₁_map}
@@ -31,8 +31,7 @@ known_decided : (b : Bool) (A : Type 0) → Decides b A → Known A
 known_decided b A decides h = decides.0 (∥∥₁_elim h (Bool-set b true) decides.1)
 
 known_all : {X : Type 0} (P : X → Type 0) → ((x : X) → Known (P x)) → (xs : List X) → Known (All P xs)
-known_all P known [] h = tt
-known_all P known (x ∷ xs) h = (known x (∥∥₁_map h (λ p. p.0)), known_all P known xs (∥∥₁_map h (λ p. p.1)))
+known_all P known xs h = λ k d below. known (get_or xs k d) (∥∥₁_map h (λ all. all k d below))
 
 known_apart : (ps : List Pair) → Known (Apart ps)
 known_apart [] h = tt

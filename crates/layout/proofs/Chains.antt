@@ -2,7 +2,7 @@
 use Rattle.std.proofs.Common.{◌≡◌, ℕ, ◌+◌, ◌<◌, cond, eqb, ◌⊎◌, List, [], ◌∷◌, ◌++◌, map, length, get_or, All, Contains, sym, refl, ap, ◌∙◌, subst, inl, inr, ⊎_elim, append_assoc, append-nil, arith}
 use Rattle.std.specs.List.{range_with_len}
 use Rattle.std.proofs.lemmas.List.FromFn.{length-range_with_len, get_or-range_with_len}
-use Rattle.std.proofs.lemmas.List.Elements.{Contains-append_left, Contains-push, Contains-push_cases, All-contains}
+use Rattle.std.proofs.lemmas.List.Elements.{Contains-append_left, Contains-push, Contains-push_cases, All-contains, All-head, All-tail}
 use Rattle.std.proofs.lemmas.List.{get_or-map, length-map}
 use Rattle.std.proofs.lemmas.Bool.{cases_eq, eq-eqb, ne_eqb, cond-true, cond-false}
 use Rattle.layout.specs.Graph.{relabelled, merged, merged_all, Labellable, labels}
@@ -115,7 +115,7 @@ labelled_rest : (links : List Link) (ls : List ℕ) (more : List Link) → Label
 labelled_rest links ls [] told fits = subst (λ x. Labelled x ls) (sym (append-nil links)) told
 labelled_rest links ls (l ∷ more) told fits =
     subst (λ x. Labelled x (merged_all (merged ls l) more)) (append_assoc links (l ∷ []) more)
-    (labelled_rest (links ++ l ∷ []) (merged ls l) more (labelled_more links ls l told fits.0) fits.1)
+    (labelled_rest (links ++ l ∷ []) (merged ls l) more (labelled_more links ls l told (All-head Labellable l more fits)) (All-tail Labellable l more fits))
 
 pub labelled : (links : List Link) → All Labellable links → Labelled links (labels links)
 labelled links fits = labelled_rest [] (range_with_len 0 32) links labelled_none fits

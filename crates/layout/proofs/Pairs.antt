@@ -1,6 +1,6 @@
 -- Pairs of routers: what the tests tell, and pairs that do not repeat. Assumes nothing.
 use Rattle.std.proofs.Common.{◌≡◌, ℕ, ◌<◌, ◌≤◌, Bool, true, false, not, ◌&&◌, ◌||◌, eqb, ltb, leb, ◌⊎◌, List, [], ◌∷◌, ◌++◌, map, length, get_or, Decides, All, Contains, sym, refl, ap, ◌∙◌, subst, inl, inr, ⊎_elim, arith}
-use Rattle.std.proofs.lemmas.List.Elements.{All-push, All-contains, Contains-get_or, Contains-append_right}
+use Rattle.std.proofs.lemmas.List.Elements.{All-nil, All-cons, All-push, All-contains, Contains-get_or, Contains-append_right, at_from_Contains}
 use Rattle.std.proofs.lemmas.Bool.{leb-true, le-leb, eqb-true, eq-eqb, both_ways, cases_Bool}
 use Rattle.std.proofs.lemmas.Bool.Decides.{Decides-eqb, Decides-and, Decides-or, Decides-by_or, Decides-like, not_from_Decides}
 use Rattle.layout.specs.Checks.{same_pair, repeats, wrong_pair}
@@ -20,7 +20,7 @@ same_back p q (inr h) = inr (sym h.1, sym h.0)
 
 pub decides_repeats : (p : Pair) (ps : List Pair) → Decides (repeats p ps) (Again p ps)
 decides_repeats p ps =
-    Decides-like (repeats p ps) (λ h. (get_or ps h.0 p, Contains-get_or ps h.0 p h.1, h.2 p)) (λ h. (h.1.0, h.1.1, λ d. subst (Same p) (sym (h.1.2 d)) h.2))
+    Decides-like (repeats p ps) (λ h. (get_or ps h.0 p, Contains-get_or ps h.0 p h.1, h.2 p)) (λ h. let at = at_from_Contains ps h.0 h.1 in (at.0, at.1, λ d. subst (Same p) (sym (at.2 d)) h.2))
     (Decides-by_or (same_pair p) (Same p) (repeats p) (decides_same p) refl (λ _ _. refl) ps)
 
 pub decides_wrong : (p : Pair) (ps : List Pair) → Decides (wrong_pair p ps) (Wrong p ps)
@@ -30,7 +30,7 @@ has_first : (p : Pair) (ps : List Pair) → Contains (p ∷ ps) p
 has_first p ps = Contains-get_or (p ∷ ps) 0 p (omega arith)
 
 pub apart_push : (ps : List Pair) (p : Pair) → Apart ps → (Again p ps → ⊥) → Apart (ps ++ p ∷ [])
-apart_push [] p a new = (tt, tt)
+apart_push [] p a new = (All-nil (λ q. Same p q → ⊥), tt)
 apart_push (x ∷ ps) p a new = (
   All-push (λ q. Same x q → ⊥) ps p a.0 (λ s. new (x, has_first x ps, same_back x p s)),
   apart_push ps p a.1 (λ h. new (h.0, Contains-append_right (x ∷ []) ps h.0 h.1, h.2)),
@@ -38,11 +38,11 @@ apart_push (x ∷ ps) p a new = (
 
 -- what comes later is new to what comes before
 apart_before : (done : List Pair) (p : Pair) (todo : List Pair) → Apart (done ++ p ∷ todo) → All (λ q. Same p q → ⊥) done
-apart_before [] p todo a = tt
-apart_before (x ∷ done) p todo a = (
-  λ s. All-contains (λ q. Same x q → ⊥) (done ++ p ∷ todo) p a.0 (Contains-append_right done (p ∷ todo) p (has_first p todo)) (same_back p x s),
-  apart_before done p todo a.1,
-)
+apart_before [] p todo a = All-nil (λ q. Same p q → ⊥)
+apart_before (x ∷ done) p todo a =
+    All-cons (λ q. Same p q → ⊥) x done
+    (λ s. All-contains (λ q. Same x q → ⊥) (done ++ p ∷ todo) p a.0 (Contains-append_right done (p ∷ todo) p (has_first p todo)) (same_back p x s))
+    (apart_before done p todo a.1)
 
 pub apart_new : (done : List Pair) (p : Pair) (todo : List Pair) → Apart (done ++ p ∷ todo) → Again p done → ⊥
 apart_new done p todo a h = All-contains (λ q. Same p q → ⊥) done h.0 (apart_before done p todo a) h.1 h.2

@@ -1,6 +1,6 @@
 -- The reading of a table, one record after another. Assumes nothing.
 use Rattle.std.proofs.Common.{◌≡◌, ℕ, ◌+◌, ◌<◌, ◌≤◌, List, [], ◌∷◌, ◌++◌, length, drop, Ok, Err, sym, refl, ap, ◌∙◌, subst, one-add, arith}
-use Rattle.std.proofs.lemmas.List.Elements.{All-drop, All-take}
+use Rattle.std.proofs.lemmas.List.Elements.{All-drop, All-tail, All-take}
 use Rattle.std.proofs.lemmas.List.{length-drop}
 use Rattle.faults.specs.declared.load.LoadFault.TheVariants.{Record, Table}
 use Rattle.faults.specs.declared.record.RecordFault.{RecordFault}
@@ -59,10 +59,10 @@ module _ (bs : List ℕ) (t : Declared) (s : Standing) (h : Progress bs t s) whe
     -- over the first byte and the body
     front_behind : (b : ℕ) (more : List ℕ) → Front bs t s.before s.place 0 (b ∷ more) → Found s.before s.place b more p k body → (u : Declared) → Ok u ≡ declaring t p k body → Front bs u (kind_byte k) (s.place + 1 + body_length k) 0 (drop (1 + body_length k) (b ∷ more))
     front_behind b more f at u e =
-        let bytes : Bytes body = subst Bytes (sym at.cut) (All-take (λ x. x < 256) (body_length k) more f.bytes.1) in
+        let bytes : Bytes body = subst Bytes (sym at.cut) (All-take (λ x. x < 256) (body_length k) more (All-tail (λ x. x < 256) b more f.bytes)) in
         let tells : DeclaringTells t b more s.before s.place f.follows p k body at bytes (Ok u) = subst (DeclaringTells t b more s.before s.place f.follows p k body at bytes) (sym e) (declaring_tells t b more s.before s.place f.follows p k body at bytes) in
         let next = front_on bs b more (told bs more) t s.before s.place f p k body at tells.1 in
-        let here : Front bs (adding t k body) (kind_byte k) (s.place + 1 + body_length k) 0 (drop (body_length k) more) = record { sound = next.sound; follows = next.follows; at_place = next.at_place; within = omega arith; bytes = All-drop (λ x. x < 256) (body_length k) more f.bytes.1; split = next.split } in
+        let here : Front bs (adding t k body) (kind_byte k) (s.place + 1 + body_length k) 0 (drop (body_length k) more) = record { sound = next.sound; follows = next.follows; at_place = next.at_place; within = omega arith; bytes = All-drop (λ x. x < 256) (body_length k) more (All-tail (λ x. x < 256) b more f.bytes); split = next.split } in
         subst (λ n. Front bs u (kind_byte k) (s.place + 1 + body_length k) 0 (drop n (b ∷ more))) (sym (one-add (body_length k)))
         (subst (λ v. Front bs v (kind_byte k) (s.place + 1 + body_length k) 0 (drop (body_length k) more)) (sym tells.0) here)
 

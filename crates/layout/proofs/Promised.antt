@@ -1,10 +1,11 @@
 -- What the reading of a table promises, of any bytes. Assumes nothing.
-use Rattle.std.proofs.Common.{◌≡◌, ℕ, List, Ok, Err, Result, sym, refl, ap, ◌∙◌, subst, arith}
+use Rattle.std.proofs.Common.{◌≡◌, ℕ, List, [], Ok, Err, Result, sym, refl, ap, ◌∙◌, subst, arith}
+use Rattle.std.proofs.lemmas.List.Elements.{All-nil}
 use Rattle.faults.specs.declared.load.LoadFault.{LoadFault}
 use Rattle.layout.specs.Promise.{Reads}
 use Rattle.layout.specs.Reading.{table_in}
 use Rattle.layout.specs.Table.{Declared, nothing}
-use Rattle.layout.specs.WellFormed.{Sound}
+use Rattle.layout.specs.WellFormed.{RouterFits, LinkFits, SessionFits, PathFits, Sound}
 use Rattle.layout.proofs.Accepts.{table_accepted}
 use Rattle.layout.proofs.Records.{Bytes}
 use Rattle.layout.proofs.Tells.{Tells, told}
@@ -15,12 +16,12 @@ nothing_sound = record {
   few_links = omega arith;
   few_sessions = omega arith;
   few_paths = omega arith;
-  routers_fit = tt;
-  links_fit = tt;
+  routers_fit = All-nil RouterFits;
+  links_fit = All-nil (LinkFits 0);
   links_apart = tt;
-  sessions_fit = tt;
+  sessions_fit = All-nil (SessionFits []);
   sessions_apart = tt;
-  paths_fit = tt;
+  paths_fit = All-nil (PathFits 0);
 }
 
 pub reads : (bs : List ℕ) → Bytes bs → Reads bs (table_in bs)

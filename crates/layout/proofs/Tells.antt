@@ -1,6 +1,6 @@
 -- Reading on from a sound front tells of the whole. Assumes nothing.
 use Rattle.std.proofs.Common.{◌≡◌, ℕ, zero, suc, ◌+◌, ◌*◌, ◌<◌, ◌≤◌, List, [], ◌∷◌, ◌++◌, length, take, drop, Ok, Err, All, Result, sym, refl, ap, ◌∙◌, subst, append_assoc, append-nil, arith}
-use Rattle.std.proofs.lemmas.List.Elements.{All-take}
+use Rattle.std.proofs.lemmas.List.Elements.{All-tail, All-take}
 use Rattle.std.proofs.lemmas.List.{length-append, take-append-drop, length-take-le}
 use Rattle.faults.specs.Faults.{place_of}
 use Rattle.faults.specs.declared.graph.GraphFault.{GraphFault}
@@ -74,7 +74,7 @@ module _ (bs : List ℕ) where
           follows = sym a.last;
           at_place = omega (arith, f.at_place, ap length a.bytes, length-append (encoded t) (kind_byte k ∷ body), good.long);
           within = found_there.whole;
-          bytes = f.bytes.1;
+          bytes = All-tail (λ x. x < 256) b more f.bytes;
           split = f.split ∙ ap (λ l. encoded t ++ l) (sym rest) ∙ sym (append_assoc (encoded t) (kind_byte k ∷ body) (drop (body_length k) more)) ∙ ap (λ l. l ++ drop (body_length k) more) (sym a.bytes);
         }
 
@@ -89,7 +89,7 @@ module _ (bs : List ℕ) where
     record_told : (r : Reading) → Read before place b more r → Tells (of_record r t (λ k u. read_from (body_length k) u (kind_byte k) (place + 1 + body_length k) more))
     record_told ended h = absurd h
     record_told (found p k body) h =
-        let bytes : Bytes body = subst Bytes (sym h.cut) (All-take (λ x. x < 256) (body_length k) more f.bytes.1) in
+        let bytes : Bytes body = subst Bytes (sym h.cut) (All-take (λ x. x < 256) (body_length k) more (All-tail (λ x. x < 256) b more f.bytes)) in
         declared_told p k body h bytes (declaring t p k body) (declaring_tells t b more before place f.follows p k body h bytes)
     record_told (refused fault) h =
         let v = refused_lowest t b more before place f.follows fault h in (
@@ -99,5 +99,5 @@ module _ (bs : List ℕ) where
 
   pub told : (rest : List ℕ) → Told rest
   told [] skip t before place f = graph_told t f.sound (f.split ∙ ap (λ l. encoded t ++ l) (drop_none skip) ∙ append-nil (encoded t)) (whole t) (whole_tells t f.sound)
-  told (b ∷ more) (suc skip) t before place f = told more skip t before place (record { sound = f.sound; follows = f.follows; at_place = f.at_place; within = omega (arith, f.within); bytes = f.bytes.1; split = f.split })
+  told (b ∷ more) (suc skip) t before place f = told more skip t before place (record { sound = f.sound; follows = f.follows; at_place = f.at_place; within = omega (arith, f.within); bytes = All-tail (λ x. x < 256) b more f.bytes; split = f.split })
   told (b ∷ more) zero t before place f = record_told b more (told more) t before place f (reading_at before place (b ∷ more)) (read before place b more)

@@ -19,8 +19,8 @@ loop-i-preserved c =
     let long = c.loop-i.invariant.0 in
     let width : w ≡ 32 = omega arith in
     let wide : length row ≡ 32 = c.relax.auto.row ∙ length-between xs (32 * i) (32 * i + 32) (omega arith) ∙ width in
-    let via : (b : ℕ) → b < 32 → get_or c.copy-from-slice.new.self b 0 ≡ cost_at old k b = λ b lb.
-    ap (λ v. get_or v b 0) c.copy-from-slice.ensures.after ∙ get_or-between old (32 * k) (32 * k + 32) b 0 (omega arith) in
+    let via : (b : ℕ) → b < 32 → get_or c.copy_from_slice.new.self b 0 ≡ cost_at old k b = λ b lb.
+    ap (λ v. get_or v b 0) c.copy_from_slice.ensures.after ∙ get_or-between old (32 * k) (32 * k + 32) b 0 (omega arith) in
     let here : (b : ℕ) → b < 32 → cost_at (put_mid (32 * i) w xs row) i b ≡ cost_through k old i b = λ b lb.
     row_written xs row i w small long wide width b lb
     ∙ c.relax.ensures b lb

@@ -22,8 +22,8 @@ bounds-row-path c =
     exit_in_row t (known_well_formed t c.args.distances.now.table.sound) c.args.router _ _ c.in-ok-row.ensures.value
     (c.paths-paths.ensures.value ∙ ap (λ (table : Table). (declared table).paths) c.table.ensures) c.loop-p.p c.loop-p-test.true
 
-pub overflow-add-offer : goal.overflow-add-offer
-overflow-add-offer c =
+pub overflow_add-offer : goal.overflow_add-offer
+overflow_add-offer c =
     let t = declared_by c.args.distances.now in
     omega (
       arith,
@@ -38,7 +38,7 @@ loop-p-preserved c =
     let paths = c.paths-paths.ensures.value ∙ ap (λ (table : Table). (declared table).paths) c.table.ensures in
     elim c.if-contains.branch [
       | then-contains way ↦
-          way.best_is ∙ ap Some way.or-better.ensures
+          way.best_is ∙ ap Some way.or_better.ensures
           ∙ best_with t c.args.router c.args.set.0 c.loop-p.p _ c.loop-p.best (sym way.if-contains.ensures)
           (offer_is t w c.args.router _ _ c.in-ok-row.ensures.value paths c.loop-p.p c.loop-p-test.true) c.loop-p.invariant
       | else-contains way ↦

@@ -13,8 +13,8 @@ bounds-row-exit c =
     exit_in_row t (known_well_formed t c.args.distances.now.table.sound) c.args.router _ _ c.in-ok-row.ensures.value
     (c.paths-paths.ensures.value ∙ ap (λ (table : Table). (declared table).paths) c.table.ensures) c.args.path c.if-path-paths.false
 
-pub overflow-add-result : goal.overflow-add-result
-overflow-add-result c =
+pub overflow_add-result : goal.overflow_add-result
+overflow_add-result c =
     let t = declared_by c.args.distances.now in
     omega (
       arith,

@@ -24,13 +24,13 @@ returns-then-router-routers c =
       however = always_leaves plain plain_laws t measured c.args.set.0;
     }
 
-pub returns-then-met-lt-MOST-MET : goal.returns-then-met-lt-MOST-MET
-returns-then-met-lt-MOST-MET c =
+pub returns-then-met-lt-MOST_MET : goal.returns-then-met-lt-MOST_MET
+returns-then-met-lt-MOST_MET c =
     let t = declared_by c.args.distances.now in
     let measured = plain_measured t (known_well_formed t c.args.distances.now.table.sound) in
     let routers = c.routers.ensures.value ∙ ap (λ (table : Table). (declared table).routers) c.table.ensures in
     let below : c.args.router < length t.routers = omega (arith, ap length routers, c.if-router-routers.false) in
-    let short = lt-leb 32 (length c.args.met.now) c.if-met-lt-MOST-MET.true in
+    let short = lt-leb 32 (length c.args.met.now) c.if-met-lt-MOST_MET.true in
     record {
       value = sym (cond-true _ _ _ (lt-ltb _ _ below) ∙ cond-false _ _ _ short);
       bytes = sym (cond-false _ _ _ (and_right _ _ short));
@@ -44,7 +44,7 @@ returns c =
     let measured = plain_measured t (known_well_formed t c.args.distances.now.table.sound) in
     let routers = c.routers.ensures.value ∙ ap (λ (table : Table). (declared table).routers) c.table.ensures in
     let below : c.args.router < length t.routers = omega (arith, ap length routers, c.if-router-routers.false) in
-    let room = le-leb 32 (length c.args.met.now) c.if-met-lt-MOST-MET.false in
+    let room = le-leb 32 (length c.args.met.now) c.if-met-lt-MOST_MET.false in
     record {
       value = ap Ok c.follow.ensures.value ∙ sym (cond-true _ _ _ (lt-ltb _ _ below) ∙ cond-true _ _ _ room);
       bytes = c.follow.ensures.bytes ∙ sym (cond-true _ _ _ (and_from _ _ (lt-ltb _ _ below) room));

@@ -45,4 +45,4 @@ loop-p-preserved c =
 
 pub returns : goal.returns
 returns c =
-    picking_ends c.args.criterion c.args.paths.now c.args.set.0 c.loop-p.rest.0 c.loop-p.picked.0 c.loop-p.lowest c.requires c.loop-p.invariant c.in-default.ensures
+    picking_ends c.args.criterion c.args.paths.now c.args.set.0 c.loop-p.rest.0 c.loop-p.picked.0 c.loop-p.lowest c.requires c.loop-p.invariant c.in_default.ensures

@@ -13,8 +13,8 @@ least-costs-requires c =
       declared = subst (All (LinkFits (length c.routers.result.now))) (sym c.links.ensures.value) (subst (λ n. All (LinkFits n) t.links) (sym (ap length c.routers.ensures.value)) w.sound.links_fit);
     }
 
-pub invariant-of-result : goal.invariant-of-result
-invariant-of-result c =
+pub invariant_of-result : goal.invariant_of-result
+invariant_of-result c =
     let t = declared c.args.table in
     (∣ held_from t (known_well_formed t c.args.table.sound) c.least-costs.result _ _ c.routers.ensures.value c.links.ensures.value c.least-costs.ensures ∣₁, tt)
 

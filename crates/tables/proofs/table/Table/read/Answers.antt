@@ -40,19 +40,19 @@ pub loop-next-preserved : goal.loop-next-preserved
 loop-next-preserved c =
     let in_some = (goal.at.loop-next-preserved c).In-Some in
     subst (Progress c.args.bytes.now (declared_in c.declare.new.self)) (sym (behind in_some))
-    (goes_on _ _ _ c.loop-next.invariant _ _ _ (there in_some) (declared_in c.declare.new.self) c.in-default-declare.ensures.value)
+    (goes_on _ _ _ c.loop-next.invariant _ _ _ (there in_some) (declared_in c.declare.new.self) c.in_default-declare.ensures.value)
 
 pub checked-requires : goal.checked-requires
 checked-requires c = c.loop-next.invariant.front.sound
 
 pub returns-in-Ok-checked : goal.returns-in-Ok-checked
 returns-in-Ok-checked c =
-    let end : ended ≡ reading (standing c.loop-next.reader) = ap (λ o. answered (Ok o)) (sym c.in-default.is) ∙ c.in-Ok.ensures.answer in
+    let end : ended ≡ reading (standing c.loop-next.reader) = ap (λ o. answered (Ok o)) (sym c.in_default.is) ∙ c.in-Ok.ensures.answer in
     let value = ap of_graph c.in-Ok-checked.ensures ∙ ends _ _ _ c.loop-next.invariant end in
     record { value = value; promise = promised c.args.bytes.now _ c.type-inv.bytes value }
 
 pub returns-in-Err-checked : goal.returns-in-Err-checked
 returns-in-Err-checked c =
-    let end : ended ≡ reading (standing c.loop-next.reader) = ap (λ o. answered (Ok o)) (sym c.in-default.is) ∙ c.in-Ok.ensures.answer in
+    let end : ended ≡ reading (standing c.loop-next.reader) = ap (λ o. answered (Ok o)) (sym c.in_default.is) ∙ c.in-Ok.ensures.answer in
     let value = ap of_graph c.in-Err-checked.ensures ∙ ends _ _ _ c.loop-next.invariant end in
     record { value = value; promise = promised c.args.bytes.now _ c.type-inv.bytes value }

@@ -4,34 +4,34 @@ use Rattle.layout.proofs.Whole.{all_labellable, unled_below, cut_off_below, well
 use Rattle.declarations.specs.Held.{declared_in}
 use Rattle.tables.proofs.table.read.checked.Goals as goal
 
-pub overflow-mul-result : goal.overflow-mul-result
-overflow-mul-result c =
+pub overflow_mul-result : goal.overflow_mul-result
+overflow_mul-result c =
     let t = declared_in c.args.declarations in
-    let found = c.in-Some.ensures ∙ ap (λ rs. first_where (unled rs) 0 rs) c.as-slice.ensures in
+    let found = c.in-Some.ensures ∙ ap (λ rs. first_where (unled rs) 0 rs) c.as_slice.ensures in
     omega (arith, unled_below t c.requires c.in-Some.v found)
 
-pub cut-off-router-requires : goal.cut-off-router-requires
-cut-off-router-requires c = record {
+pub cut_off_router-requires : goal.cut_off_router-requires
+cut_off_router-requires c = record {
   few = omega (arith, c.len-count.ensures, c.requires.few_routers);
-  declared = subst (All Labellable) (sym c.as-slice-2.ensures) (all_labellable (declared_in c.args.declarations) c.requires);
+  declared = subst (All Labellable) (sym c.as_slice-2.ensures) (all_labellable (declared_in c.args.declarations) c.requires);
 }
 
-pub overflow-mul-result-in-Some-cut-off-router : goal.overflow-mul-result-in-Some-cut-off-router
-overflow-mul-result-in-Some-cut-off-router c =
+pub overflow_mul-result-in-Some-cut_off_router : goal.overflow_mul-result-in-Some-cut_off_router
+overflow_mul-result-in-Some-cut_off_router c =
     let t = declared_in c.args.declarations in
     let found =
-    c.in-Some-cut-off-router.ensures
-    ∙ ap (λ ls. first_where (cut_off (labels ls)) 0 (take c.len-count.result (labels ls))) c.as-slice-2.ensures
+    c.in-Some-cut_off_router.ensures
+    ∙ ap (λ ls. first_where (cut_off (labels ls)) 0 (take c.len-count.result (labels ls))) c.as_slice-2.ensures
     ∙ ap (λ n. first_where (cut_off (labels t.links)) 0 (take n (labels t.links))) c.len-count.ensures in
-    omega (arith, cut_off_below t c.requires c.in-Some-cut-off-router.v found)
+    omega (arith, cut_off_below t c.requires c.in-Some-cut_off_router.v found)
 
-pub invariant-of-result : goal.invariant-of-result
-invariant-of-result c =
+pub invariant_of-result : goal.invariant_of-result
+invariant_of-result c =
     let t = declared_in c.args.declarations in
-    let led = c.in-default.ensures ∙ ap (λ rs. first_where (unled rs) 0 rs) c.as-slice.ensures in
+    let led = c.in_default.ensures ∙ ap (λ rs. first_where (unled rs) 0 rs) c.as_slice.ensures in
     let joined =
-    c.in-default-cut-off-router.ensures
-    ∙ ap (λ ls. first_where (cut_off (labels ls)) 0 (take c.len-count.result (labels ls))) c.as-slice-2.ensures
+    c.in_default-cut_off_router.ensures
+    ∙ ap (λ ls. first_where (cut_off (labels ls)) 0 (take c.len-count.result (labels ls))) c.as_slice-2.ensures
     ∙ ap (λ n. first_where (cut_off (labels t.links)) 0 (take n (labels t.links))) c.len-count.ensures in
     let some : 1 ≤ length t.routers = omega (arith, c.if-count-eq0.false, c.len-count.ensures) in
     (∣ well_formed t c.requires some led joined ∣₁, tt)
