@@ -12,7 +12,7 @@ bounds-paths-p g c =
     declared_word c.args.paths.now c.args.set.0 c.declared_of-rest.result.0 c.declared_of-rest.ensures c.in-Some.p (c.loop-p.invariant.part c.in-Some.p c.in-Some.ensures.0.0)
 
 pub through-part-requires : goal.through-part-requires
-through-part-requires g c κs p m =
+through-part-requires g c p m =
     declared_word c.args.paths.now c.args.set.0 c.declared_of-rest.result.0 c.declared_of-rest.ensures p (c.loop-p.invariant.part p m)
 
 pub loop-p-smaller : goal.loop-p-smaller

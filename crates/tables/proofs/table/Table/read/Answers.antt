@@ -11,12 +11,12 @@ use Rattle.tables.proofs.table.Table.read.Goals.{In-Some}
 pub loop-next-init : goal.loop-next-init
 loop-next-init c =
     subst (Progress c.args.bytes.now (declared_in c.new-declarations.result)) (sym c.new-reader.ensures)
-    (subst (λ t. Progress c.args.bytes.now t (record { before = 0; place = 0; rest = c.args.bytes.now })) (sym c.new-declarations.ensures) (begun c.args.bytes.now (are_bytes c.args.bytes.now c.type-inv.bytes)))
+    (subst (λ t. Progress c.args.bytes.now t (record { before = 0; place = 0; rest = c.args.bytes.now })) (sym c.new-declarations.ensures) (begun c.args.bytes.now (are_bytes c.args.bytes.now c.type_inv.bytes)))
 
 pub returns-in-Err : goal.returns-in-Err
 returns-in-Err c =
     let value = refuses _ _ _ c.loop-next.invariant c.in-Err.fault c.in-Err.ensures.answer in
-    record { value = value; promise = promised c.args.bytes.now _ c.type-inv.bytes value }
+    record { value = value; promise = promised c.args.bytes.now _ c.type_inv.bytes value }
 
 -- the record that stands there
 there : (c : In-Some) → found c.in-Some.found.place (kind_in c.in-Some.found.record) (body_in c.in-Some.found.record) ≡ reading (standing c.loop-next.reader)
@@ -25,7 +25,7 @@ there c = ap (λ o. answered (Ok o)) (sym c.in-Some.is) ∙ c.in-Ok.ensures.answ
 pub returns-in-Err-declare : goal.returns-in-Err-declare
 returns-in-Err-declare c =
     let value = breaks _ _ _ c.loop-next.invariant _ _ _ (there (goal.at.returns-in-Err-declare c).In-Some) c.in-Err-declare.fault c.in-Err-declare.ensures.value in
-    record { value = value; promise = promised c.args.bytes.now _ c.type-inv.bytes value }
+    record { value = value; promise = promised c.args.bytes.now _ c.type_inv.bytes value }
 
 -- the reader stands behind it
 behind : (c : In-Some) → standing c.next.new.self ≡ passing (standing c.loop-next.reader) (found c.in-Some.found.place (kind_in c.in-Some.found.record) (body_in c.in-Some.found.record))
@@ -49,10 +49,10 @@ pub returns-in-Ok-checked : goal.returns-in-Ok-checked
 returns-in-Ok-checked c =
     let end : ended ≡ reading (standing c.loop-next.reader) = ap (λ o. answered (Ok o)) (sym c.in_default.is) ∙ c.in-Ok.ensures.answer in
     let value = ap of_graph c.in-Ok-checked.ensures ∙ ends _ _ _ c.loop-next.invariant end in
-    record { value = value; promise = promised c.args.bytes.now _ c.type-inv.bytes value }
+    record { value = value; promise = promised c.args.bytes.now _ c.type_inv.bytes value }
 
 pub returns-in-Err-checked : goal.returns-in-Err-checked
 returns-in-Err-checked c =
     let end : ended ≡ reading (standing c.loop-next.reader) = ap (λ o. answered (Ok o)) (sym c.in_default.is) ∙ c.in-Ok.ensures.answer in
     let value = ap of_graph c.in-Err-checked.ensures ∙ ends _ _ _ c.loop-next.invariant end in
-    record { value = value; promise = promised c.args.bytes.now _ c.type-inv.bytes value }
+    record { value = value; promise = promised c.args.bytes.now _ c.type_inv.bytes value }

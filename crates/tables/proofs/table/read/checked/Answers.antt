@@ -34,4 +34,4 @@ invariant_of-result c =
     ∙ ap (λ ls. first_where (cut_off (labels ls)) 0 (take c.len-count.result (labels ls))) c.as_slice-2.ensures
     ∙ ap (λ n. first_where (cut_off (labels t.links)) 0 (take n (labels t.links))) c.len-count.ensures in
     let some : 1 ≤ length t.routers = omega (arith, c.if-count-eq0.false, c.len-count.ensures) in
-    (∣ well_formed t c.requires some led joined ∣₁, tt)
+    record { sound = ∣ well_formed t c.requires some led joined ∣₁ }
