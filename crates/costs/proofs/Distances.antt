@@ -141,7 +141,7 @@ module _ {C : Type 0} {cost : Cost C} (laws : CostLaws cost) (links : List Link)
   -- which is no farther than over any link between the two
   pub direct_link : (a b : ℕ) (l : Link) → Contains links l → Same l.ends (record { a = a; b = b }) → AtMost cost (direct cost links a b) (cost.of_link l)
   direct_link a b l has same =
-      by_links_at laws links (cond (eqb a b) cost.zero_cost cost.unreached) a b has.0 l has.1 (has.2 l) same
+      by_links_at laws links (cond (eqb a b) cost.zero_cost cost.unreached) a b has.0 l has.1 has.2 same
 
   -- and nowhere from a router to itself
   pub direct_itself : (a : ℕ) → AtMost cost (direct cost links a a) cost.zero_cost

@@ -1,6 +1,6 @@
 -- Walks that meet no router twice, and how far one router is from another by the plain metric. Assumes nothing.
 use Rattle.std.proofs.Common.{ℕ, ◌+◌, ◌*◌, ◌^◌, ◌<◌, ◌≤◌, List, [], ◌∷◌, length, All, Contains, subst, ⊎_elim, arith}
-use Rattle.std.proofs.lemmas.List.Elements.{All-contains}
+use Rattle.std.proofs.lemmas.List.Elements.{All-nil, All-cons, All-contains}
 use Rattle.std.proofs.lemmas.Bool.{leb-true}
 use Rattle.layout.specs.Table.{Declared}
 use Rattle.layout.specs.WellFormed.{LinkFits, Chain, stay, along, WellFormed}
@@ -43,8 +43,8 @@ straight (along a b c l rest) =
 module _ (links : List Link) (n : ℕ) (fit : All (LinkFits n) links) where
   -- a walk from a router meets only routers
   pub met_below : {a b : ℕ} (w : Chain links a b) → a < n → All (λ v. v < n) (met w)
-  met_below (stay a) h = (h, tt)
-  met_below (along a b c l rest) h = (h, met_below rest (end_below n l.0 a b (All-contains (LinkFits n) links l.0 fit l.1) l.2))
+  met_below (stay a) h = All-cons (λ v. v < n) a [] h (All-nil (λ v. v < n))
+  met_below (along a b c l rest) h = All-cons (λ v. v < n) a (met rest) h (met_below rest (end_below n l.0 a b (All-contains (LinkFits n) links l.0 fit l.1) l.2))
 
   -- by the plain metric, each router that a walk goes on to adds less than 2 ^ 16
   plain_walk : {a b : ℕ} (w : Chain links a b) → walk_cost plain w + 65535 ≤ length (met w) * 65535

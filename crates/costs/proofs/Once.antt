@@ -2,8 +2,8 @@
 use Rattle.std.proofs.Common.{◌≡◌, ℕ, zero, suc, ◌^◌, ◌<◌, ◌≤◌, true, false, eqb, ◌⊎◌, List, [], ◌∷◌, length, get_or, All, Contains, sym, refl, ◌∙◌, subst, inl, inr, ⊎_elim, arith}
 use lib.Bits.{bit_or}
 use lib.Count.{ones}
-use Rattle.std.proofs.lemmas.Nat.{pow_pos, pow_below, or_lt, ones_le}
-use Rattle.std.proofs.lemmas.List.Elements.{Contains-get_or, Contains-append_right}
+use Rattle.std.proofs.lemmas.Nat.{pow_pos, pow_below, or_lt, ones-le}
+use Rattle.std.proofs.lemmas.List.Elements.{All-head, All-tail, Contains-get_or, Contains-append_right}
 use Rattle.std.proofs.lemmas.Bool.{both_ways, cases_Bool, cases_eq, or_cases, eqb-true}
 use Rattle.sets.specs.Members.{member}
 use Rattle.sets.proofs.Digits.{member_none}
@@ -21,8 +21,8 @@ has_later v vs w h = Contains-append_right (v ∷ []) vs w h
 pub has_cases : (v : ℕ) (vs : List ℕ) (w : ℕ) → Contains (v ∷ vs) w → (v ≡ w) ⊎ Contains vs w
 has_cases v vs w h = go h.0 h.1 h.2
   where
-    go : (k : ℕ) → k < suc (length vs) → ((d : ℕ) → get_or (v ∷ vs) k d ≡ w) → (v ≡ w) ⊎ Contains vs w
-    go zero l at = inl (at w)
+    go : (k : ℕ) → k < suc (length vs) → get_or (v ∷ vs) k w ≡ w → (v ≡ w) ⊎ Contains vs w
+    go zero l at = inl at
     go (suc k) l at = inr (k, omega arith, at)
 
 -- a list has a router, or does not
@@ -43,7 +43,7 @@ word (v ∷ vs) = bit_or (word vs) (2 ^ v)
 word_below : (n : ℕ) (vs : List ℕ) → All (λ v. v < n) vs → word vs < 2 ^ n
 unfolding word
 word_below n [] h = pow_pos n
-word_below n (v ∷ vs) h = or_lt n (word vs) (2 ^ v) (word_below n vs h.1) (pow_below v n h.0)
+word_below n (v ∷ vs) h = or_lt n (word vs) (2 ^ v) (word_below n vs (All-tail (λ x. x < n) v vs h)) (pow_below v n (All-head (λ x. x < n) v vs h))
 
 -- its members are routers of the list
 has_from_word : (vs : List ℕ) (v : ℕ) → member (word vs) v ≡ true → Contains vs v
@@ -67,4 +67,4 @@ word_ones (v ∷ vs) h = ones_with (word vs) v (new_member vs v h.0) ∙ (let re
 
 -- so at most n different routers are below n
 pub once_short : (n : ℕ) (vs : List ℕ) → Once vs → All (λ v. v < n) vs → length vs ≤ n
-once_short n vs h below = subst (λ x. x ≤ n) (word_ones vs h) (ones_le n (word vs) (word_below n vs below))
+once_short n vs h below = subst (λ x. x ≤ n) (word_ones vs h) (ones-le n (word vs) (word_below n vs below))

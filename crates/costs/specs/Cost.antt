@@ -1,5 +1,5 @@
 -- What a way costs, the laws that every cost shows, and the plain metric. Assumes nothing.
-use Rattle.std.specs.Prelude.{◌≡◌, ℕ, ◌+◌, ◌-◌, ◌^◌, ◌<◌, ◌≤◌, min, Bool, true, false, cond, ◌||◌, nat_lt}
+use Rattle.std.specs.Prelude.{◌≡◌, ℕ, ◌+◌, ◌-◌, ◌^◌, ◌<◌, ◌≤◌, min, Bool, true, false, cond, ◌||◌, nat_lt, nat_le}
 use Rattle.layout.specs.declared.link.Link.{Link}
 use Rattle.layout.specs.declared.path.ExitPath.{ExitPath}
 
@@ -70,5 +70,5 @@ plain = record {
   of_link = λ l. l.metric;
   of_exit = λ x. x.exit_cost;
   join = λ a b. min (a + b) (2 ^ 32 - 1);
-  at_most = leb;
+  at_most = nat_le;
 }
