@@ -1,6 +1,6 @@
 -- A packet leaves: each router that sends it on reckons less than the one before, however ties fall. Assumes nothing.
 use Rattle.std.proofs.Common.{◌≡◌, ℕ, zero, suc, ◌+◌, ◌<◌, ◌≤◌, ◌⊎◌, List, [], ◌∷◌, length, Some, None, All, Contains, Option, sym, refl, ap, ◌∙◌, subst, inl, inr, ⊎_elim, arith}
-use Rattle.std.proofs.lemmas.List.Elements.{All-get_or, All-contains, All-weaker}
+use Rattle.std.proofs.lemmas.List.Elements.{All-nil, All-cons, All-get_or, All-contains, All-weaker}
 use Rattle.std.proofs.lemmas.Bool.{cases_eq}
 use Rattle.costs.specs.Cost.{Cost, CostLaws, Fits, AtMost, Less}
 use Rattle.costs.specs.Least.{direct, distance}
@@ -105,10 +105,10 @@ module _ {C : Type 0} (cost : Cost C) (laws : CostLaws cost) (t : Declared) (mea
 
     -- those before v, and v itself, reckon more than the router behind it
     above_more : (v p w q : ℕ) (seen : List ℕ) → choice v ≡ Some p → Less cost (m w q) (m v p) → All (Above (m v p)) seen → All (Above (m w q)) (v ∷ seen)
-    above_more v p w q seen e less above = (
-      λ r f. subst (λ x. Less cost (m w q) (m v x)) (same_choice v p r e f) less,
-      All-weaker (Above (m v p)) (Above (m w q)) (λ u h r f. less_then_less laws (m w q) (m v p) (m u r) less (h r f)) seen above,
-    )
+    above_more v p w q seen e less above =
+        All-cons (Above (m w q)) v seen
+        (λ r f. subst (λ x. Less cost (m w q) (m v x)) (same_choice v p r e f) less)
+        (All-weaker (Above (m v p)) (Above (m w q)) (λ u h r f. less_then_less laws (m w q) (m v p) (m u r) less (h r f)) seen above)
 
     -- from v on, where those that the packet met before it are seen and more are left to meet than fuel allows
     leaving : (fuel v : ℕ) (seen : List ℕ) → v < n → Once seen → All (λ u. u < n) seen → ((p : ℕ) → choice v ≡ Some p → (exit_of t p ≡ v → ⊥) → All (Above (m v p)) seen) → n < fuel + length seen → (met : List ℕ) × (path : ℕ) × Way cost t choice v met path
@@ -124,32 +124,36 @@ module _ {C : Type 0} (cost : Cost C) (laws : CostLaws cost) (t : Declared) (mea
         let w = next.0 in
         let hw = next.2 in
         let rest =
-        leaving fuel w (v ∷ seen) hw (not_seen v p seen e (above p e ne), once) (hv, below)
+        leaving fuel w (v ∷ seen) hw (not_seen v p seen e (above p e ne), once) (All-cons (λ u. u < n) v seen hv below)
         (λ q f other. above_more v p w q seen e (falls v p w q hv e hw next.3 f other) (above p e ne))
         (omega arith) in
         (w ∷ rest.0, rest.1, on v p w rest.0 rest.1 e ne next.3 rest.2))
         (cases_eq (exit_of t p) v)
 
+    -- router u reckons less than c, if it sends the packet on
+    abbrev Under : C → ℕ → Type 0
+    Under c u = (q : ℕ) → choice u ≡ Some q → (exit_of t q ≡ u → ⊥) → Less cost (m u q) c
+
     -- behind a router that sends the packet on, each router that sends it on reckons less
-    later_less : (v p w : ℕ) (met : List ℕ) (path : ℕ) → v < n → choice v ≡ Some p → NextHop cost t v (exit_of t p) w → Way cost t choice w met path → All (λ u. (q : ℕ) → choice u ≡ Some q → (exit_of t q ≡ u → ⊥) → Less cost (m u q) (m v p)) (w ∷ met)
-    later_less v p w met path hv e next (out x q f own) = (λ r g ne. absurd (ne (subst (λ y. exit_of t y ≡ w) (same_choice w q r f g) own)), tt)
+    later_less : (v p w : ℕ) (met : List ℕ) (path : ℕ) → v < n → choice v ≡ Some p → NextHop cost t v (exit_of t p) w → Way cost t choice w met path → All (Under (m v p)) (w ∷ met)
+    later_less v p w met path hv e next (out x q f own) = All-cons (Under (m v p)) w [] (λ r g ne. absurd (ne (subst (λ y. exit_of t y ≡ w) (same_choice w q r f g) own))) (All-nil (Under (m v p)))
     later_less v p w met path hv e next (on x q u more end f ne after way) =
         let hw = hop_below v p w next in
-        let here = falls v p w q hv e hw next f ne in (
-          λ r g other. subst (λ y. Less cost (m w y) (m v p)) (same_choice w q r f g) here,
-          All-weaker _ _ (λ y h r g other. less_then_less laws (m y r) (m w q) (m v p) (h r g other) here) (u ∷ more) (later_less w q u more end hw f after way),
-        )
+        let here = falls v p w q hv e hw next f ne in
+        All-cons (Under (m v p)) w (u ∷ more)
+        (λ r g other. subst (λ y. Less cost (m w y) (m v p)) (same_choice w q r f g) here)
+        (All-weaker (Under (m w q)) (Under (m v p)) (λ y h r g other. less_then_less laws (m y r) (m w q) (m v p) (h r g other) here) (u ∷ more) (later_less w q u more end hw f after way))
 
     pub met_once : (v : ℕ) (met : List ℕ) (path : ℕ) → v < n → Way cost t choice v met path → Once (v ∷ met)
     met_once v met path hv (out x p e own) = (λ has. absurd (omega (arith, has.1)), tt)
     met_once v met path hv (on x p w more end e ne next way) = (
-      λ has. less_irreflexive laws (m v p) (All-contains _ (w ∷ more) v (later_less v p w more end hv e next way) has p e ne),
+      λ has. less_irreflexive laws (m v p) (All-contains (Under (m v p)) (w ∷ more) v (later_less v p w more end hv e next way) has p e ne),
       met_once w more end (hop_below v p w next) way,
     )
 
     pub met_below : (v : ℕ) (met : List ℕ) (path : ℕ) → v < n → Way cost t choice v met path → All (λ u. u < n) (v ∷ met)
-    met_below v met path hv (out x p e own) = (hv, tt)
-    met_below v met path hv (on x p w more end e ne next way) = (hv, met_below w more end (hop_below v p w next) way)
+    met_below v met path hv (out x p e own) = All-cons (λ u. u < n) v [] hv (All-nil (λ u. u < n))
+    met_below v met path hv (on x p w more end e ne next way) = All-cons (λ u. u < n) v (w ∷ more) hv (met_below w more end (hop_below v p w next) way)
 
     links_fit : (v : ℕ) (met : List ℕ) → Fits cost (links_cost cost t v met)
     links_fit v [] = laws.zero_fits
@@ -174,7 +178,7 @@ module _ {C : Type 0} (cost : Cost C) (laws : CostLaws cost) (t : Declared) (mea
     leaves_from v met path hv way = record { goes = way; once = met_once v met path hv way; cheap = met_cheap v met path hv way }
 
     pub way_exists : (v : ℕ) → v < n → (met : List ℕ) × (path : ℕ) × Way cost t choice v met path
-    way_exists v hv = leaving (suc n) v [] hv tt tt (λ _ _ _. tt) (omega arith)
+    way_exists v hv = leaving (suc n) v [] hv tt (All-nil (λ u. u < n)) (λ p _ _. All-nil (Above (m v p))) (omega arith)
 
   pub always_leaves : (s : ℕ) → AlwaysLeaves cost t s
   always_leaves s choice choosing v hv =

@@ -2,7 +2,7 @@
 use Rattle.std.proofs.Common.{◌≡◌, ℕ, ◌+◌, ◌<◌, Bool, true, false, ◌&&◌, ◌⊎◌, List, length, get_or, Some, None, Decides, All, Contains, Option, sym, refl, ap, ◌∙◌, subst, inl, inr, ⊎_elim, arith}
 use Rattle.std.specs.List.{range_with_len}
 use Rattle.std.proofs.lemmas.List.FromFn.{length-range_with_len, get_or-range_with_len}
-use Rattle.std.proofs.lemmas.List.Elements.{All-contains, Contains-get_or}
+use Rattle.std.proofs.lemmas.List.Elements.{All-contains, Contains-get_or, at_from_Contains}
 use Rattle.std.proofs.lemmas.Bool.{and_parts, and_from, cases_eq, cases_order}
 use Rattle.std.proofs.lemmas.Bool.Decides.{Decides-and, Decides-by_or, Decides-like, not_from_Decides}
 use Rattle.costs.specs.Cost.{Cost, CostLaws, AtMost}
@@ -39,7 +39,7 @@ module _ {C : Type 0} (cost : Cost C) (laws : CostLaws cost) (t : Declared) wher
   decides_towards v e w =
       Decides-like (some_leads cost t v e w t.links)
       (λ h. (get_or t.links h.0 no_link, Contains-get_or t.links h.0 no_link h.1, (h.2 no_link).0, (h.2 no_link).1))
-      (λ h. (h.1.0, h.1.1, λ d. subst (Leading v e w) (sym (h.1.2 d)) (h.2, h.3)))
+      (λ h. let at = at_from_Contains t.links h.0 h.1 in (at.0, at.1, λ d. subst (Leading v e w) (sym (at.2 d)) (h.2, h.3)))
       (Decides-by_or (leads cost t v e w) (Leading v e w) (some_leads cost t v e w) (decides_leads v e w) refl (λ _ _. refl) t.links)
 
   abbrev n : ℕ

@@ -16,7 +16,7 @@ least-costs-requires c =
 pub invariant_of-result : goal.invariant_of-result
 invariant_of-result c =
     let t = declared c.args.table in
-    (∣ held_from t (known_well_formed t c.args.table.sound) c.least-costs.result _ _ c.routers.ensures.value c.links.ensures.value c.least-costs.ensures ∣₁, tt)
+    record { least = ∣ held_from t (known_well_formed t c.args.table.sound) c.least-costs.result _ _ c.routers.ensures.value c.links.ensures.value c.least-costs.ensures ∣₁ }
 
 pub returns : goal.returns
 returns c =
