@@ -19,7 +19,7 @@ loop-p-init c = best_begins (declared_by c.args.distances.now) c.args.router c.a
 pub bounds-row-path : goal.bounds-row-path
 bounds-row-path c =
     let t = declared_by c.args.distances.now in
-    exit_in_row t (known_well_formed t c.args.distances.now.table.sound) c.args.router _ _ c.in-ok-row.ensures.value
+    exit_in_row t (known_well_formed t c.args.distances.now.table.sound) c.args.router _ _ c.in_ok-row.ensures.value
     (c.paths-paths.ensures.value ∙ ap (λ (table : Table). (declared table).paths) c.table.ensures) c.loop-p.p c.loop-p-test.true
 
 pub overflow_add-offer : goal.overflow_add-offer
@@ -27,7 +27,7 @@ overflow_add-offer c =
     let t = declared_by c.args.distances.now in
     omega (
       arith,
-      row_near t (known_well_formed t c.args.distances.now.table.sound) c.args.router c.in-ok-row.row.now c.paths-paths.result.now c.in-ok-row.ensures.value
+      row_near t (known_well_formed t c.args.distances.now.table.sound) c.args.router c.in_ok-row.row.now c.paths-paths.result.now c.in_ok-row.ensures.value
           (c.paths-paths.ensures.value ∙ ap (λ (table : Table). (declared table).paths) c.table.ensures) c.loop-p.p c.loop-p-test.true,
     )
 
@@ -38,11 +38,11 @@ loop-p-preserved c =
     let paths = c.paths-paths.ensures.value ∙ ap (λ (table : Table). (declared table).paths) c.table.ensures in
     elim c.if-contains.branch [
       | then-contains way ↦
-          way.best_is ∙ ap Some way.or_better.ensures
+          way.best-is ∙ ap Some way.or_better.ensures
           ∙ best_with t c.args.router c.args.set.0 c.loop-p.p _ c.loop-p.best (sym way.if-contains.ensures)
-          (offer_is t w c.args.router _ _ c.in-ok-row.ensures.value paths c.loop-p.p c.loop-p-test.true) c.loop-p.invariant
+          (offer_is t w c.args.router _ _ c.in_ok-row.ensures.value paths c.loop-p.p c.loop-p-test.true) c.loop-p.invariant
       | else-contains way ↦
-          way.best_is ∙ best_without t c.args.router c.args.set.0 c.loop-p.p c.loop-p.best (sym way.if-contains.ensures) c.loop-p.invariant
+          way.best-is ∙ best_without t c.args.router c.args.set.0 c.loop-p.p c.loop-p.best (sym way.if-contains.ensures) c.loop-p.invariant
     ]
 
 pub returns-in-Some : goal.returns-in-Some
@@ -54,7 +54,7 @@ returns-in-Some c =
     let all : c.loop-p.p ≡ length t.paths = omega (arith, ap length paths, c.loop-p-test.false, c.loop-p.auto.p-end) in
     let is = best_some t v s c.loop-p.p all c.in-Some.offer (sym c.in-Some.is ∙ c.loop-p.invariant) in
     record {
-      value = answers t v _ _ (answered t v _ (distances_from t v) c.in-ok-row.ensures.value).0 is;
+      value = answers t v _ _ (answered t v _ (distances_from t v) c.in_ok-row.ensures.value).0 is;
       plain = subst (BestIs plain t s v) (sym is) (best_is plain plain_laws t s v);
     }
 
@@ -67,6 +67,6 @@ returns-in-None c =
     let all : c.loop-p.p ≡ length t.paths = omega (arith, ap length paths, c.loop-p-test.false, c.loop-p.auto.p-end) in
     let is = best_none t v s c.loop-p.p all (sym c.in-None.is ∙ c.loop-p.invariant) in
     record {
-      value = answers t v _ _ (answered t v _ (distances_from t v) c.in-ok-row.ensures.value).0 is;
+      value = answers t v _ _ (answered t v _ (distances_from t v) c.in_ok-row.ensures.value).0 is;
       plain = subst (BestIs plain t s v) (sym is) (best_is plain plain_laws t s v);
     }

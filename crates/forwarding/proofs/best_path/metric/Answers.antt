@@ -10,7 +10,7 @@ use Rattle.forwarding.proofs.best_path.metric.Goals as goal
 pub bounds-row-exit : goal.bounds-row-exit
 bounds-row-exit c =
     let t = declared_by c.args.distances.now in
-    exit_in_row t (known_well_formed t c.args.distances.now.table.sound) c.args.router _ _ c.in-ok-row.ensures.value
+    exit_in_row t (known_well_formed t c.args.distances.now.table.sound) c.args.router _ _ c.in_ok-row.ensures.value
     (c.paths-paths.ensures.value ∙ ap (λ (table : Table). (declared table).paths) c.table.ensures) c.args.path c.if-path-paths.false
 
 pub overflow_add-result : goal.overflow_add-result
@@ -18,7 +18,7 @@ overflow_add-result c =
     let t = declared_by c.args.distances.now in
     omega (
       arith,
-      row_near t (known_well_formed t c.args.distances.now.table.sound) c.args.router c.in-ok-row.row.now c.paths-paths.result.now c.in-ok-row.ensures.value
+      row_near t (known_well_formed t c.args.distances.now.table.sound) c.args.router c.in_ok-row.row.now c.paths-paths.result.now c.in_ok-row.ensures.value
           (c.paths-paths.ensures.value ∙ ap (λ (table : Table). (declared table).paths) c.table.ensures) c.args.path c.if-path-paths.false,
     )
 
@@ -26,7 +26,7 @@ pub returns : goal.returns
 returns c =
     let t = declared_by c.args.distances.now in
     let w = known_well_formed t c.args.distances.now.table.sound in
-    let told = c.in-ok-row.ensures.value in
+    let told = c.in_ok-row.ensures.value in
     let paths = c.paths-paths.ensures.value ∙ ap (λ (table : Table). (declared table).paths) c.table.ensures in
     let lt = c.if-path-paths.false in
     let below : c.args.path < length t.paths = omega (arith, ap length paths, lt) in

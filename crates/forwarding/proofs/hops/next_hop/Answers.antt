@@ -26,7 +26,7 @@ along-requires c =
     let links = c.links-link-items.ensures.value ∙ ap (λ (table : Table). (declared table).links) c.table.ensures in
     let fits = subst (λ (ls : List Link). LinkFits (length t.routers) (get_or ls c.loop-link.link-index (record { ends = record { a = 0; b = 0 }; metric = 0 }))) (sym links)
     (All-get_or (LinkFits (length t.routers)) t.links c.loop-link.link-index _ (omega (arith, ap length links, c.loop-link-test.true)) w.sound.links_fit) in
-    let told = both_answered t c.args.from c.args.towards _ (distance plain t c.args.from c.args.towards) c.in-ok-whole.ensures.value in
+    let told = both_answered t c.args.from c.args.towards _ (distance plain t c.args.from c.args.towards) c.in_ok-whole.ensures.value in
     record { ends = (fits.0.0, fits.0.1); end = told.1; whole = told.2 }
 
 pub loop-link-preserved : goal.loop-link-preserved
@@ -50,7 +50,7 @@ returns c =
     let links = c.links-link-items.ensures.value ∙ ap (λ (table : Table). (declared table).links) c.table.ensures in
     let all : length t.links ≤ c.loop-link.link-index = omega (arith, ap length links, c.loop-link-test.false) in
     let is = over_all plain plain_laws t v e w.sound.links_fit c.loop-link.link-index c.loop-link.lowest all c.loop-link.invariant in
-    let told = both_answered t v e _ (distance plain t v e) c.in-ok-whole.ensures.value in
+    let told = both_answered t v e _ (distance plain t v e) c.in_ok-whole.ensures.value in
     let measured = plain_measured t w in
     record {
       value = both_answers t v e _ _ told.0 told.1 is;
