@@ -1,5 +1,5 @@
 -- The best offer so far is that of the best path so far. Assumes nothing.
-use Rattle.std.proofs.Common.{◌≡◌, ℕ, suc, ◌+◌, ◌<◌, ◌≤◌, Bool, true, false, cond, eqb, List, length, get_or, Some, None, Ok, Option, sym, refl, ap, ◌∙◌, subst, ⊎_elim, add-one, arith}
+use Rattle.std.proofs.Common.{◌≡◌, ℕ, ◌+◌, ◌<◌, true, false, eqb, List, length, get_or, Some, None, Ok, Option, sym, refl, ap, ◌∙◌, ⊎_elim, add-one, arith}
 use Rattle.std.proofs.lemmas.Bool.{cases_Bool, cond-true, cond-false}
 use Rattle.costs.specs.Cost.{plain}
 use Rattle.distances.specs.Answered.{row_answer}
@@ -8,7 +8,7 @@ use Rattle.layout.specs.WellFormed.{WellFormed}
 use Rattle.layout.specs.declared.path.ExitPath.{ExitPath}
 use Rattle.packets.specs.Best.{best_below, the_better, takes_first, best}
 use Rattle.sets.specs.Members.{member}
-use Rattle.forwarding.specs.Offers.{offer_at, offer_first, better_offer, offered_at}
+use Rattle.forwarding.specs.Offers.{offer_at, better_offer, offered_at}
 use Rattle.forwarding.specs.declared.offer.Offer.{Offer}
 use Rattle.forwarding.proofs.Rows.{row_sum}
 

@@ -1,13 +1,11 @@
 -- The metric of a path by the distances from a router. Assumes nothing.
-use Rattle.std.proofs.Common.{◌≡◌, ℕ, ◌+◌, ◌*◌, ◌<◌, ◌≤◌, ◌&&◌, ltb, List, length, get_or, Ok, Err, Result, sym, refl, ap, ◌∙◌, subst, ⊎_elim, arith}
-use Rattle.std.specs.List.{range_with_len}
+use Rattle.std.proofs.Common.{◌≡◌, ℕ, ◌+◌, ◌*◌, ◌<◌, ◌≤◌, ◌&&◌, ltb, List, length, get_or, Ok, Err, sym, ap, ◌∙◌, subst, ⊎_elim, arith}
 use Rattle.std.proofs.lemmas.List.FromFn.{length-map-range_with_len, get_or-map-range_with_len}
 use Rattle.std.proofs.lemmas.List.Elements.{All-get_or}
 use Rattle.std.proofs.lemmas.Bool.{and_from, and_parts, cases_Bool, cond-true, cond-false, ltb-true, lt-ltb}
 use Rattle.costs.specs.Cost.{plain}
 use Rattle.costs.specs.Least.{distance}
 use Rattle.distances.specs.Answered.{distances_from, of_router, of_routers, row_answer, undeclared}
-use Rattle.faults.specs.declared.call.CallFault.{CallFault}
 use Rattle.faults.specs.declared.call.CallFault.TheVariants.{UndeclaredRouter}
 use Rattle.layout.specs.Table.{Declared, path_at}
 use Rattle.layout.specs.WellFormed.{PathFits, WellFormed}

@@ -21,7 +21,6 @@ use Rattle.selection.specs.Laws.{Offered}
 use Rattle.tables.specs.Accepted.{declared}
 use Rattle.tables.specs.declared.table.Table.{Table}
 use Rattle.forwarding.specs.Answers.{told, over_written}
-use Rattle.forwarding.specs.declared.packet.Way.{Way}
 
 -- a packet is followed from router v, and its routers are written over what a buffer held
 pub record Setting (t : Declared) (s v : ℕ) (before : List ℕ) : Type 0 where

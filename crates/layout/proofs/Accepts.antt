@@ -1,5 +1,5 @@
 -- The bytes of a well-formed table are read as that table. Assumes nothing.
-use Rattle.std.proofs.Common.{◌≡◌, ℕ, zero, ◌+◌, ◌<◌, ◌≤◌, Bool, true, false, cond, ◌⊎◌, List, [], ◌∷◌, ◌++◌, map, length, Ok, Decides, All, sym, refl, ap, ◌∙◌, subst, inl, inr, ⊎_elim, append_assoc, append-nil, arith}
+use Rattle.std.proofs.Common.{◌≡◌, ℕ, zero, ◌+◌, ◌<◌, ◌≤◌, Bool, false, List, [], ◌∷◌, ◌++◌, map, length, Ok, Decides, All, sym, refl, ap, ◌∙◌, subst, ⊎_elim, append_assoc, append-nil, arith}
 use mathlib.Core.List.{map-append}
 use Rattle.std.specs.List.{flat_map}
 use Rattle.std.proofs.lemmas.List.Elements.{All-contains, Contains-get_or, Contains-append_right}
@@ -8,10 +8,9 @@ use Rattle.std.proofs.lemmas.Bool.{cases_Bool, cond-false, lt-leb}
 use Rattle.records.specs.Kinds.{kind_byte, body_length}
 use Rattle.records.specs.declared.kind.Kind.{Kind}
 use Rattle.records.specs.declared.kind.Kind.TheVariants.{Router as router_kind, Link as link_kind, Session as session_kind, Path as path_kind}
-use Rattle.layout.specs.Bodies.{byte, two, four, role_in, pair_in, router_in, link_in, session_in, path_in, adding}
-use Rattle.layout.specs.Checks.{out_of_range, bad_pair, bad_session, declaring}
-use Rattle.layout.specs.Encoding.{two_bytes, four_bytes, role_byte, router_bytes, link_bytes, session_bytes, path_body, path_bytes, encoded}
-use Rattle.layout.specs.Graph.{whole}
+use Rattle.layout.specs.Bodies.{role_in, router_in, link_in, path_in, adding}
+use Rattle.layout.specs.Checks.{declaring}
+use Rattle.layout.specs.Encoding.{two_bytes, role_byte, router_bytes, link_bytes, session_bytes, path_body, path_bytes, encoded}
 use Rattle.layout.specs.Reading.{of_graph, read_from, table_in}
 use Rattle.layout.specs.Rules.{most, count, OutOfRange, BadPair, BadSession}
 use Rattle.layout.specs.Table.{Declared}

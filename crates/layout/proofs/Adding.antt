@@ -1,19 +1,17 @@
 -- One record more: the table stays sound, and its bytes are those before and the record's. Assumes nothing.
-use Rattle.std.proofs.Common.{◌≡◌, ℕ, ◌+◌, ◌*◌, ◌^◌, ◌<◌, ◌≤◌, ◌⊎◌, List, [], ◌∷◌, ◌++◌, map, length, get_or, All, sym, refl, ap, ◌∙◌, subst, inl, inr, ⊎_elim, append_assoc, append-nil, arith}
+use Rattle.std.proofs.Common.{◌≡◌, ℕ, ◌+◌, ◌^◌, ◌<◌, ◌≤◌, List, [], ◌∷◌, ◌++◌, length, All, sym, refl, ap, ◌∙◌, subst, inl, inr, ⊎_elim, append_assoc, append-nil, arith}
 use Rattle.std.specs.List.{flat_map}
 use Rattle.std.proofs.lemmas.List.Elements.{All-nil, All-push}
 use Rattle.std.proofs.lemmas.List.{flat_map_more, length_push, map_push}
 use Rattle.std.proofs.lemmas.Bool.{cases_lt, cases_eq}
-use Rattle.std.proofs.lemmas.Bool.Decides.{not_from_Decides}
 use Rattle.records.specs.Kinds.{kind_byte, body_length}
 use Rattle.records.specs.declared.kind.Kind.{Kind}
 use Rattle.records.specs.declared.kind.Kind.TheVariants.{Router as router_kind, Link as link_kind, Session as session_kind, Path as path_kind}
 use Rattle.layout.specs.Bodies.{byte, two, four, pair_in, router_in, link_in, session_in, path_in, adding}
 use Rattle.layout.specs.Encoding.{router_bytes, link_bytes, session_bytes, path_bytes, encoded}
-use Rattle.layout.specs.Rules.{most, count, top, latest, OutOfRange, BadPair, BadSession}
+use Rattle.layout.specs.Rules.{most, count, top, latest, OutOfRange, BadPair}
 use Rattle.layout.specs.Table.{Declared}
 use Rattle.layout.specs.WellFormed.{Joins, ClientsOfOne, RouterFits, LinkFits, SessionFits, PathFits, link_ends, session_ends, Apart, Sound}
-use Rattle.layout.proofs.Checks.{decides_clients}
 use Rattle.layout.proofs.Pairs.{apart_push}
 use Rattle.layout.proofs.Records.{Bytes, at_byte, router_bytes_in, link_bytes_in, session_bytes_in, path_bytes_in}
 

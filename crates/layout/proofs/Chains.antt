@@ -1,5 +1,5 @@
 -- Chains of links, and the labels that tell them. Assumes nothing.
-use Rattle.std.proofs.Common.{◌≡◌, ℕ, ◌+◌, ◌<◌, cond, eqb, ◌⊎◌, List, [], ◌∷◌, ◌++◌, map, length, get_or, All, Contains, sym, refl, ap, ◌∙◌, subst, inl, inr, ⊎_elim, append_assoc, append-nil, arith}
+use Rattle.std.proofs.Common.{◌≡◌, ℕ, ◌<◌, eqb, List, [], ◌∷◌, ◌++◌, length, get_or, All, sym, refl, ap, ◌∙◌, subst, inl, inr, ⊎_elim, append_assoc, append-nil, arith}
 use Rattle.std.specs.List.{range_with_len}
 use Rattle.std.proofs.lemmas.List.FromFn.{length-range_with_len, get_or-range_with_len}
 use Rattle.std.proofs.lemmas.List.Elements.{Contains-append_left, Contains-push, Contains-push_cases, All-contains, All-head, All-tail}
@@ -9,7 +9,6 @@ use Rattle.layout.specs.Graph.{relabelled, merged, merged_all, Labellable, label
 use Rattle.layout.specs.WellFormed.{Same, Linked, Chain, stay, along}
 use Rattle.layout.specs.declared.link.Link.{Link}
 use Rattle.layout.specs.declared.link.Pair.{Pair}
-use Rattle.layout.proofs.Pairs.{same_back}
 
 pub chain_join : {links : List Link} {a b c : ℕ} → Chain links a b → Chain links b c → Chain links a c
 chain_join (stay a) h = h

@@ -1,12 +1,12 @@
 -- Each check of a record tells whether the record breaks its rule. Assumes nothing.
-use Rattle.std.proofs.Common.{◌≡◌, ℕ, ◌<◌, ◌≤◌, Bool, true, false, not, ◌&&◌, ◌||◌, eqb, ltb, leb, List, map, length, get_or, Decides, sym, refl, ap, ◌∙◌, subst}
+use Rattle.std.proofs.Common.{◌≡◌, ℕ, ◌<◌, true, false, ltb, List, length, get_or, Decides, sym, refl, ap, ◌∙◌}
 use Rattle.std.proofs.lemmas.List.{get_or_default}
 use Rattle.std.proofs.lemmas.Bool.{and_parts, and_from, ltb-true, lt-ltb, eqb-true, eq-eqb, false≢true}
 use Rattle.std.proofs.lemmas.Bool.Decides.{Decides-eqb, Decides-or, Decides-not}
 use Rattle.records.specs.declared.kind.Kind.{Kind}
 use Rattle.records.specs.declared.kind.Kind.TheVariants.{Router as router_kind, Link as link_kind, Session as session_kind, Path as path_kind}
 use Rattle.layout.specs.Bodies.{pair_in}
-use Rattle.layout.specs.Checks.{is_client, clients_alike, clients_of_one, out_of_range, bad_pair, bad_session}
+use Rattle.layout.specs.Checks.{is_client, clients_of_one, out_of_range, bad_pair, bad_session}
 use Rattle.layout.specs.Rules.{OutOfRange, BadPair, BadSession}
 use Rattle.layout.specs.Table.{Declared}
 use Rattle.layout.specs.WellFormed.{Is, client, ClientsOfOne}

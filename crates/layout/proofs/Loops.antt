@@ -1,11 +1,9 @@
 -- One step of a loop over a list, for what the checks define by recursion: those that are left tell the same as all. Assumes nothing.
-use Rattle.std.proofs.Common.{◌≡◌, ℕ, ◌+◌, ◌<◌, ◌≤◌, Bool, true, false, cond, ◌||◌, List, [], ◌∷◌, map, length, get_or, drop, Some, None, sym, refl, ap, ◌∙◌}
+use Rattle.std.proofs.Common.{◌≡◌, ℕ, ◌+◌, ◌<◌, ◌≤◌, Bool, true, false, ◌||◌, List, ◌∷◌, length, get_or, drop, Some, None, ap, ◌∙◌}
 use Rattle.std.proofs.lemmas.List.{at_drop_more, at_drop_all}
 use Rattle.std.proofs.lemmas.Bool.{cond-true, cond-false, or_left}
-use Rattle.layout.specs.Checks.{same_pair, repeats}
-use Rattle.layout.specs.Graph.{first_where, has_reflector, merged, merged_all}
+use Rattle.layout.specs.Graph.{first_where, merged, merged_all}
 use Rattle.layout.specs.declared.link.Link.{Link}
-use Rattle.layout.specs.declared.link.Pair.{Pair}
 
 or_skip : (x y : Bool) → x ≡ false → (x || y) ≡ y
 or_skip x y e = ap (λ b. b || y) e

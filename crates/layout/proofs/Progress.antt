@@ -1,19 +1,18 @@
 -- The reading of a table, one record after another. Assumes nothing.
-use Rattle.std.proofs.Common.{◌≡◌, ℕ, ◌+◌, ◌<◌, ◌≤◌, List, [], ◌∷◌, ◌++◌, length, drop, Ok, Err, sym, refl, ap, ◌∙◌, subst, one-add, arith}
+use Rattle.std.proofs.Common.{◌≡◌, ℕ, ◌+◌, ◌<◌, List, [], ◌∷◌, length, drop, Ok, Err, sym, refl, ap, ◌∙◌, subst, one-add, arith}
 use Rattle.std.proofs.lemmas.List.Elements.{All-drop, All-tail, All-take}
 use Rattle.std.proofs.lemmas.List.{length-drop}
 use Rattle.faults.specs.declared.load.LoadFault.TheVariants.{Record, Table}
 use Rattle.faults.specs.declared.record.RecordFault.{RecordFault}
 use Rattle.faults.specs.declared.table.TableFault.{TableFault}
 use Rattle.records.specs.Kinds.{kind_byte, body_length}
-use Rattle.records.specs.Readings.{Reading, ended, found, refused, reading_at, Standing, reading, passing}
+use Rattle.records.specs.Readings.{ended, found, refused, reading_at, Standing, reading, passing}
 use Rattle.records.specs.declared.kind.Kind.{Kind}
 use Rattle.layout.specs.Bodies.{adding}
 use Rattle.layout.specs.Checks.{declaring}
 use Rattle.layout.specs.Graph.{whole}
 use Rattle.layout.specs.Reading.{of_graph, read_from, table_in}
 use Rattle.layout.specs.Table.{Declared, nothing}
-use Rattle.layout.specs.WellFormed.{Sound}
 use Rattle.layout.proofs.KindBytes.{Found, Read, read}
 use Rattle.layout.proofs.Promised.{nothing_sound}
 use Rattle.layout.proofs.Records.{Bytes}

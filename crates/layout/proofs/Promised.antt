@@ -1,10 +1,9 @@
 -- What the reading of a table promises, of any bytes. Assumes nothing.
-use Rattle.std.proofs.Common.{◌≡◌, ℕ, List, [], Ok, Err, Result, sym, refl, ap, ◌∙◌, subst, arith}
+use Rattle.std.proofs.Common.{ℕ, List, [], refl, ap, ◌∙◌, subst, arith}
 use Rattle.std.proofs.lemmas.List.Elements.{All-nil}
-use Rattle.faults.specs.declared.load.LoadFault.{LoadFault}
 use Rattle.layout.specs.Promise.{Reads}
 use Rattle.layout.specs.Reading.{table_in}
-use Rattle.layout.specs.Table.{Declared, nothing}
+use Rattle.layout.specs.Table.{nothing}
 use Rattle.layout.specs.WellFormed.{RouterFits, LinkFits, SessionFits, PathFits, Sound}
 use Rattle.layout.proofs.Accepts.{table_accepted}
 use Rattle.layout.proofs.Records.{Bytes}

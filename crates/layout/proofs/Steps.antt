@@ -4,7 +4,7 @@ use Rattle.faults.specs.declared.load.LoadFault.TheVariants.{Record, Table}
 use Rattle.faults.specs.declared.record.RecordFault.{RecordFault}
 use Rattle.faults.specs.declared.table.TableFault.{TableFault}
 use Rattle.records.specs.Kinds.{kind_byte, body_length}
-use Rattle.records.specs.Readings.{Reading, ended, found, refused, reading_at}
+use Rattle.records.specs.Readings.{ended, found, refused, reading_at}
 use Rattle.records.specs.declared.kind.Kind.{Kind}
 use Rattle.layout.specs.Checks.{declaring}
 use Rattle.layout.specs.Graph.{whole}

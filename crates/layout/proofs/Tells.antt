@@ -1,13 +1,12 @@
 -- Reading on from a sound front tells of the whole. Assumes nothing.
-use Rattle.std.proofs.Common.{◌≡◌, ℕ, zero, suc, ◌+◌, ◌*◌, ◌<◌, ◌≤◌, List, [], ◌∷◌, ◌++◌, length, take, drop, Ok, Err, All, Result, sym, refl, ap, ◌∙◌, subst, append_assoc, append-nil, arith}
+use Rattle.std.proofs.Common.{◌≡◌, ℕ, zero, suc, ◌+◌, ◌<◌, ◌≤◌, List, [], ◌∷◌, ◌++◌, length, drop, Ok, Err, Result, sym, refl, ap, ◌∙◌, subst, append_assoc, append-nil, arith}
 use Rattle.std.proofs.lemmas.List.Elements.{All-tail, All-take}
-use Rattle.std.proofs.lemmas.List.{length-append, take-append-drop, length-take-le}
+use Rattle.std.proofs.lemmas.List.{length-append, take-append-drop}
 use Rattle.faults.specs.Faults.{place_of}
 use Rattle.faults.specs.declared.graph.GraphFault.{GraphFault}
 use Rattle.faults.specs.declared.graph.GraphFault.TheVariants.{NoRouter, NoReflector, NotJoined}
 use Rattle.faults.specs.declared.load.LoadFault.{LoadFault}
-use Rattle.faults.specs.declared.load.LoadFault.TheVariants.{Record, Table, Graph}
-use Rattle.faults.specs.declared.record.RecordFault.{RecordFault}
+use Rattle.faults.specs.declared.load.LoadFault.TheVariants.{Graph}
 use Rattle.faults.specs.declared.table.TableFault.{TableFault}
 use Rattle.records.specs.Kinds.{kind_byte, body_length}
 use Rattle.records.specs.Readings.{Reading, ended, found, refused, reading_at}
@@ -15,13 +14,13 @@ use Rattle.records.specs.declared.kind.Kind.{Kind}
 use Rattle.layout.specs.Bodies.{adding}
 use Rattle.layout.specs.Checks.{declaring}
 use Rattle.layout.specs.Encoding.{encoded}
-use Rattle.layout.specs.Graph.{router_place, whole}
+use Rattle.layout.specs.Graph.{whole}
 use Rattle.layout.specs.Promise.{Broken, BreaksWhole}
 use Rattle.layout.specs.Reading.{of_graph, of_table, of_record, read_from}
 use Rattle.layout.specs.Rules.{latest}
 use Rattle.layout.specs.Table.{Declared}
 use Rattle.layout.specs.WellFormed.{Sound, WellFormed}
-use Rattle.layout.proofs.Adding.{Good, Added, added}
+use Rattle.layout.proofs.Adding.{Good, added}
 use Rattle.layout.proofs.KindBytes.{kind_is, Found, Read, read}
 use Rattle.layout.proofs.Lengths.{router_place_is, encoded_near}
 use Rattle.layout.proofs.Records.{Bytes}

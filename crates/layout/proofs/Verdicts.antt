@@ -1,5 +1,5 @@
 -- The fault of a record has the smallest number that the record breaks, and a record without a fault breaks none. Assumes nothing.
-use Rattle.std.proofs.Common.{◌≡◌, ℕ, ◌<◌, ◌≤◌, Bool, true, false, cond, not, leb, ◌⊎◌, List, ◌∷◌, length, take, Some, None, Ok, Err, Decides, Result, sym, refl, ap, ◌∙◌, subst, inl, inr, ⊎_elim, arith}
+use Rattle.std.proofs.Common.{◌≡◌, ℕ, ◌<◌, ◌≤◌, false, leb, ◌⊎◌, List, length, take, Some, Ok, Err, Result, sym, refl, ap, ◌∙◌, subst, ⊎_elim, arith}
 use Rattle.std.proofs.lemmas.List.{length-take-le}
 use Rattle.std.proofs.lemmas.Bool.{cases_Bool, cond-true, cond-false, leb-true, leb-false, not-false}
 use Rattle.std.proofs.lemmas.Bool.Decides.{not_from_Decides}
@@ -8,12 +8,11 @@ use Rattle.faults.specs.declared.load.LoadFault.TheVariants.{Record, Table}
 use Rattle.faults.specs.declared.record.RecordFault.{RecordFault}
 use Rattle.faults.specs.declared.record.RecordFault.TheVariants.{UnknownKind, CutShort, KindFalls}
 use Rattle.faults.specs.declared.table.TableFault.{TableFault}
-use Rattle.faults.specs.declared.table.TableFault.TheVariants.{TooMany, OutOfRange as out_of_range_fault, BadPair as bad_pair_fault, BadSession as bad_session_fault}
-use Rattle.records.specs.Kinds.{kind_byte, body_length, kind_of}
+use Rattle.records.specs.Kinds.{body_length, kind_of}
 use Rattle.records.specs.declared.kind.Kind.{Kind}
 use Rattle.records.specs.declared.kind.Kind.TheVariants.{Router as router_kind, Link as link_kind, Session as session_kind, Path as path_kind}
 use Rattle.layout.specs.Bodies.{pair_in, adding}
-use Rattle.layout.specs.Checks.{out_of_range, bad_pair, bad_session, clients_of_one, declaring}
+use Rattle.layout.specs.Checks.{out_of_range, bad_pair, bad_session, declaring}
 use Rattle.layout.specs.Promise.{Lowest}
 use Rattle.layout.specs.Rules.{most, count, latest, OutOfRange, BadPair, BadSession, OfKind, Breaks, unknown_kind, cut_short, kind_falls, too_many, out_of_range as breaks_range, bad_pair as breaks_pair, bad_session as breaks_session}
 use Rattle.layout.specs.Table.{Declared}

@@ -1,17 +1,15 @@
 -- The checks of the whole tell whether it is led and connected. Assumes nothing.
-use Rattle.std.proofs.Common.{◌≡◌, ℕ, ◌+◌, ◌<◌, ◌≤◌, Bool, true, false, cond, not, ◌&&◌, eqb, ◌⊎◌, List, [], ◌∷◌, length, get_or, take, Some, None, Ok, Err, Decides, All, Option, Result, sym, refl, ap, ◌∙◌, subst, inl, inr, ⊎_elim, arith}
+use Rattle.std.proofs.Common.{◌≡◌, ℕ, ◌<◌, ◌≤◌, Bool, true, false, not, ◌&&◌, eqb, ◌⊎◌, List, length, get_or, take, Some, None, Ok, Err, Decides, All, Option, Result, sym, refl, ap, ◌∙◌, subst, inl, inr, ⊎_elim, arith}
 use Rattle.std.proofs.lemmas.List.Elements.{All-weaker}
 use Rattle.std.proofs.lemmas.List.{get_or_default, get_or-take, length-take-le}
-use Rattle.std.proofs.lemmas.Bool.{and_parts, and_from, and_left, and_right, and_cases, eqb-true, eqb-false, eq-eqb, ne_eqb, not-true, not-false, not_from_true, not_from_false, false≢true, true≢false, cond-true, cond-false, cases_Bool}
+use Rattle.std.proofs.lemmas.Bool.{and_parts, eqb-true, eqb-false, eq-eqb, ne_eqb, not-true, not-false, not_from_true, not_from_false, false≢true, cond-true, cond-false, cases_Bool}
 use Rattle.std.proofs.lemmas.Bool.Decides.{Decides-by_or, Decides-like, not_from_Decides}
 use Rattle.faults.specs.declared.graph.GraphFault.{GraphFault}
-use Rattle.faults.specs.declared.graph.GraphFault.TheVariants.{NoRouter, NoReflector, NotJoined}
 use Rattle.layout.specs.Checks.{is_client}
-use Rattle.layout.specs.Graph.{first_where, has_reflector, unled, Labellable, labels, cut_off, router_place, graph_check, whole}
+use Rattle.layout.specs.Graph.{first_where, has_reflector, unled, Labellable, labels, cut_off, graph_check, whole}
 use Rattle.layout.specs.Promise.{Lowest, Unled, CutOff, BreaksWhole}
 use Rattle.layout.specs.Table.{Declared}
-use Rattle.layout.specs.WellFormed.{Is, client, reflector, Chain, Led, Connected, LinkFits, Sound, WellFormed}
-use Rattle.layout.specs.declared.link.Link.{Link}
+use Rattle.layout.specs.WellFormed.{Is, client, reflector, Chain, Led, LinkFits, Sound, WellFormed}
 use Rattle.layout.specs.declared.router.Role.{Role}
 use Rattle.layout.specs.declared.router.Role.TheVariants.{Client, Reflector}
 use Rattle.layout.specs.declared.router.Router.{Router}

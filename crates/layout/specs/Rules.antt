@@ -1,6 +1,6 @@
 -- The rules that a record can break, after what was declared before it. Assumes nothing.
 use Rattle.std.specs.Prelude.{◌≡◌, ℕ, ◌<◌, ◌≤◌, ◌⊎◌, List, [], ◌∷◌, map, length, take, Some, Contains}
-use Rattle.records.specs.Kinds.{kind_byte, body_length, kind_of}
+use Rattle.records.specs.Kinds.{body_length, kind_of}
 use Rattle.records.specs.declared.kind.Kind.{Kind}
 use Rattle.records.specs.declared.kind.Kind.TheVariants.{Router, Link, Session, Path}
 use Rattle.layout.specs.Bodies.{byte, two, pair_in}

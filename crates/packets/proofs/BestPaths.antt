@@ -1,10 +1,9 @@
 -- The best path that is worked out is the one candidate that no other beats. Assumes nothing.
-use Rattle.std.proofs.Common.{◌≡◌, ℕ, ◌<◌, ◌≤◌, Bool, true, false, cond, not, ◌&&◌, ◌||◌, eqb, ltb, ◌⊎◌, length, Some, None, Option, sym, refl, ap, ◌∙◌, subst, inl, inr, ⊎_elim, arith}
-use Rattle.std.proofs.lemmas.Bool.{both_ways, cases_Bool, cases_eq, eq-eqb, ne_eqb, not-true, or_cases, and_parts, ltb-true}
-use Rattle.costs.specs.Cost.{Cost, CostLaws, AtMost, Less}
+use Rattle.std.proofs.Common.{◌≡◌, ℕ, ◌<◌, Bool, true, false, cond, not, ◌&&◌, ◌||◌, eqb, ◌⊎◌, length, Some, None, Option, sym, ap, ◌∙◌, inl, inr, ⊎_elim, arith}
+use Rattle.std.proofs.lemmas.Bool.{both_ways, cases_eq, eq-eqb, ne_eqb, not-true, or_cases, and_parts, ltb-true}
+use Rattle.costs.specs.Cost.{Cost, CostLaws}
 use Rattle.costs.proofs.Orders.{at_most_from_same, at_most_or_less, not_less}
 use Rattle.layout.specs.Table.{Declared}
-use Rattle.selection.specs.Laws.{Offered}
 use Rattle.sets.specs.Members.{member}
 use Rattle.packets.specs.Best.{exit_of, speaker_of, metric, nearer, takes_first, best}
 use Rattle.packets.specs.BestPlain.{Candidate, Beats, Best, BestIs, Nearest}

@@ -1,5 +1,5 @@
 -- The way that is followed is the way of the packet. Assumes nothing.
-use Rattle.std.proofs.Common.{◌≡◌, ℕ, zero, suc, ◌<◌, ◌≤◌, eqb, List, [], ◌∷◌, length, Some, None, Option, sym, refl, ap, ◌∙◌, subst, arith}
+use Rattle.std.proofs.Common.{◌≡◌, ℕ, zero, suc, ◌<◌, ◌≤◌, eqb, List, ◌∷◌, length, Some, None, Option, refl, ap, ◌∙◌, arith}
 use Rattle.std.proofs.lemmas.Bool.{eq-eqb, ne_eqb, cond-true, cond-false}
 use Rattle.costs.specs.Cost.{Cost, CostLaws}
 use Rattle.costs.proofs.Once.{once_short}
@@ -7,9 +7,8 @@ use Rattle.layout.specs.Table.{Declared}
 use Rattle.selection.specs.Laws.{Offered}
 use Rattle.packets.specs.Best.{exit_of, best}
 use Rattle.packets.specs.BestPlain.{BestIs, Nearest}
-use Rattle.packets.specs.Hops.{hop}
-use Rattle.packets.specs.Ways.{Course, after, onward, sent, course, way}
-use Rattle.packets.specs.WaysPlain.{Way, out, on, Leaves, Choosing, LeavesFrom}
+use Rattle.packets.specs.Ways.{after, onward, sent, course, way}
+use Rattle.packets.specs.WaysPlain.{Way, out, on, Choosing, LeavesFrom}
 use Rattle.packets.proofs.BestPaths.{best_is, best_nearest}
 use Rattle.packets.proofs.Leaving.{Measured, hop_below, leaves_from, met_below, met_once, way_exists}
 use Rattle.packets.proofs.NextHops.{hop_from}

@@ -1,17 +1,15 @@
 -- One link after another: the lowest router to which one of the first links leads. Assumes nothing.
-use Rattle.std.proofs.Common.{◌≡◌, ℕ, ◌+◌, ◌<◌, ◌≤◌, min, Bool, true, false, cond, ◌&&◌, ◌||◌, eqb, ◌⊎◌, List, [], ◌∷◌, ◌++◌, length, get_or, take, Some, None, All, Option, sym, refl, ap, ◌∙◌, subst, inl, inr, ⊎_elim, arith}
+use Rattle.std.proofs.Common.{◌≡◌, ℕ, ◌+◌, ◌<◌, ◌≤◌, min, Bool, true, false, cond, ◌||◌, eqb, List, [], ◌∷◌, ◌++◌, length, get_or, take, Some, None, All, Option, sym, refl, ap, ◌∙◌, subst, inl, inr, ⊎_elim, arith}
 use Rattle.std.proofs.lemmas.List.{take_more, take_all}
-use Rattle.std.proofs.lemmas.Bool.{both_ways, cases_Bool, cases_eq, cases_lt, eq-eqb, ne_eqb, and_parts, and_from, or_cases, or_from, or_left, or_right, cond-true, cond-false}
+use Rattle.std.proofs.lemmas.Bool.{both_ways, cases_Bool, cases_eq, cases_lt, eq-eqb, ne_eqb, and_parts, and_from, or_from, or_left, or_right, cond-true, cond-false}
 use Rattle.costs.specs.Cost.{Cost, CostLaws}
 use Rattle.costs.specs.Least.{joins, distance}
-use Rattle.costs.specs.Walks.{Distance}
 use Rattle.costs.proofs.Distances.{joins_true, same_from_joins}
 use Rattle.layout.specs.Table.{Declared}
 use Rattle.layout.specs.WellFormed.{Same, LinkFits}
 use Rattle.layout.specs.declared.link.Link.{Link}
-use Rattle.layout.specs.declared.link.Pair.{Pair}
-use Rattle.packets.specs.Hops.{level, leads, some_leads, hop, other_end, the_lower, led_to, lead_along, NextHop}
-use Rattle.packets.proofs.NextHops.{Found, decides_towards, hop_from, linked_below, same_found}
+use Rattle.packets.specs.Hops.{level, leads, some_leads, hop, other_end, the_lower, led_to, lead_along}
+use Rattle.packets.proofs.NextHops.{Found, decides_towards, linked_below, same_found}
 
 -- the other end of a pair is the one router that the pair joins to v
 other_joins : (l : Link) (v w : ℕ) → other_end l.ends v ≡ Some w → joins l v w ≡ true

@@ -1,5 +1,5 @@
 -- A packet leaves: each router that sends it on reckons less than the one before, however ties fall. Assumes nothing.
-use Rattle.std.proofs.Common.{◌≡◌, ℕ, zero, suc, ◌+◌, ◌<◌, ◌≤◌, ◌⊎◌, List, [], ◌∷◌, length, Some, None, All, Contains, Option, sym, refl, ap, ◌∙◌, subst, inl, inr, ⊎_elim, arith}
+use Rattle.std.proofs.Common.{◌≡◌, ℕ, zero, suc, ◌+◌, ◌<◌, List, [], ◌∷◌, length, Some, All, Contains, Option, sym, ap, ◌∙◌, subst, inr, ⊎_elim, arith}
 use Rattle.std.proofs.lemmas.List.Elements.{All-nil, All-cons, All-get_or, All-contains, All-weaker}
 use Rattle.std.proofs.lemmas.Bool.{cases_eq}
 use Rattle.costs.specs.Cost.{Cost, CostLaws, Fits, AtMost, Less}
@@ -13,7 +13,7 @@ use Rattle.layout.specs.Table.{Declared, path_at}
 use Rattle.layout.specs.WellFormed.{LinkFits, PathFits}
 use Rattle.selection.specs.Laws.{Offered}
 use Rattle.packets.specs.Best.{exit_of, metric}
-use Rattle.packets.specs.BestPlain.{Candidate, Nearest}
+use Rattle.packets.specs.BestPlain.{Nearest}
 use Rattle.packets.specs.Hops.{Towards, NextHop}
 use Rattle.packets.specs.WaysPlain.{links_cost, Way, out, on, Leaves, Choosing, AlwaysLeaves}
 use Rattle.packets.proofs.NextHops.{linked_below, hop_exists}

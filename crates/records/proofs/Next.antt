@@ -1,9 +1,9 @@
 -- What stands at a place of the bytes, from what is known of the bytes there. Assumes nothing.
-use Rattle.std.proofs.Common.{◌≡◌, ℕ, ◌+◌, ◌-◌, ◌<◌, ◌≤◌, false, ltb, List, [], length, get_or, take, drop, Some, None, sym, refl, ap, ◌∙◌, arith, length-drop}
+use Rattle.std.proofs.Common.{◌≡◌, ℕ, ◌+◌, ◌<◌, ◌≤◌, false, ltb, List, length, get_or, take, drop, Some, None, sym, ap, ◌∙◌, arith}
 use Rattle.std.proofs.lemmas.List.{drop_more, drop_all, drop-drop}
 use Rattle.std.proofs.lemmas.Bool.{lt-ltb, le-ltb}
 use Rattle.records.specs.Kinds.{kind_byte, body_length, kind_of}
-use Rattle.records.specs.Readings.{Reading, ended, found, refused, reading_at, reading_kind, Standing}
+use Rattle.records.specs.Readings.{ended, found, refused, reading_at, reading_kind, Standing}
 use Rattle.faults.specs.declared.record.RecordFault.TheVariants.{UnknownKind, CutShort, KindFalls}
 use Rattle.records.specs.declared.kind.Kind.{Kind}
 

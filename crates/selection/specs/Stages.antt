@@ -1,5 +1,5 @@
 -- What each rule keeps. Assumes nothing.
-use Rattle.std.specs.Prelude.{ℕ, zero, suc, ◌-◌, ◌^◌, Bool, false, cond, not, ◌&&◌, ◌||◌, List, length, ◌==◌, bit_or, nat_lt}
+use Rattle.std.specs.Prelude.{ℕ, zero, suc, ◌^◌, Bool, false, cond, not, ◌&&◌, ◌||◌, List, length, ◌==◌, bit_or, nat_lt}
 use Rattle.layout.specs.Table.{path_at}
 use Rattle.layout.specs.declared.path.ExitPath.{ExitPath}
 use Rattle.selection.specs.declared.criterion.Criterion.{Criterion}

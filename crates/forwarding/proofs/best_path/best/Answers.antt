@@ -1,9 +1,8 @@
-use Rattle.std.proofs.Common.{◌≡◌, ℕ, List, length, Some, sym, ap, ◌∙◌, subst, arith}
+use Rattle.std.proofs.Common.{◌≡◌, length, Some, sym, ap, ◌∙◌, subst, arith}
 use Rattle.costs.specs.Cost.{plain}
 use Rattle.costs.proofs.Plain.{plain_laws}
 use Rattle.distances.specs.Answered.{declared_by, distances_from}
 use Rattle.layout.proofs.Certain.{known_well_formed}
-use Rattle.packets.specs.Best.{best}
 use Rattle.packets.specs.BestPlain.{BestIs}
 use Rattle.packets.proofs.BestPaths.{best_is}
 use Rattle.tables.specs.Accepted.{declared}

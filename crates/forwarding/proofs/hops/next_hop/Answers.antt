@@ -1,4 +1,4 @@
-use Rattle.std.proofs.Common.{◌≡◌, ◌+◌, ◌<◌, ◌≤◌, List, length, get_or, take, sym, ap, ◌∙◌, subst, arith}
+use Rattle.std.proofs.Common.{◌+◌, ◌<◌, ◌≤◌, List, length, get_or, take, sym, ap, ◌∙◌, subst, arith}
 use Rattle.std.proofs.lemmas.List.Elements.{All-get_or}
 use Rattle.costs.specs.Cost.{plain}
 use Rattle.costs.specs.Least.{distance}
@@ -7,7 +7,7 @@ use Rattle.distances.specs.Answered.{declared_by}
 use Rattle.layout.specs.WellFormed.{LinkFits}
 use Rattle.layout.specs.declared.link.Link.{Link}
 use Rattle.layout.proofs.Certain.{known_well_formed}
-use Rattle.packets.specs.Hops.{hop, HopIs, lead_along, the_lower}
+use Rattle.packets.specs.Hops.{HopIs, lead_along, the_lower}
 use Rattle.packets.proofs.HopLoops.{Over, over_none, over_more, over_all}
 use Rattle.packets.proofs.NextHops.{hop_is}
 use Rattle.packets.proofs.PlainPackets.{plain_measured}

@@ -1,4 +1,4 @@
-use Rattle.std.proofs.Common.{◌≡◌, ◌<◌, length, sym, ap, ◌∙◌, subst, arith}
+use Rattle.std.proofs.Common.{◌<◌, length, sym, ap, ◌∙◌, subst, arith}
 use Rattle.costs.specs.Cost.{plain}
 use Rattle.distances.specs.Answered.{declared_by}
 use Rattle.packets.specs.Hops.{hop}

@@ -1,7 +1,7 @@
 use Rattle.std.proofs.Common.{◌≡◌, length, Ok, sym, ap, ◌∙◌, subst, arith}
 use Rattle.layout.specs.Reading.{of_graph}
 use Rattle.layout.proofs.Progress.{Progress, begun, ends, refuses, breaks, goes_on, found_less}
-use Rattle.records.specs.Readings.{Reading, ended, found, reading, Standing, standing, passing, answered, kind_in, body_in}
+use Rattle.records.specs.Readings.{ended, found, reading, Standing, standing, passing, answered, kind_in, body_in}
 use Rattle.declarations.specs.Held.{declared_in}
 use Rattle.tables.proofs.Answered.{are_bytes, promised}
 use Rattle.tables.proofs.table.Table.read.Goals as goal

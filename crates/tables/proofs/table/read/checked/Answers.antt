@@ -1,4 +1,4 @@
-use Rattle.std.proofs.Common.{◌≡◌, ◌<◌, ◌≤◌, length, take, Some, None, All, Option, sym, ap, ◌∙◌, subst, arith}
+use Rattle.std.proofs.Common.{◌≤◌, length, take, All, sym, ap, ◌∙◌, subst, arith}
 use Rattle.layout.specs.Graph.{first_where, unled, Labellable, cut_off, labels}
 use Rattle.layout.proofs.Whole.{all_labellable, unled_below, cut_off_below, well_formed}
 use Rattle.declarations.specs.Held.{declared_in}
