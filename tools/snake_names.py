@@ -5,6 +5,8 @@ Run at the top of the repository, after the toolchain's own script. What the pro
 invariants, measures) keeps its dashes. Names of the standard library are left alone, since only names that a line
 of this repository declares are turned; so are functions of src/, strings, inputs and outputs. It prints each name
 that would fall together with another, and then writes nothing.
+
+  tools/snake_names.py --anyway   writes all the same, where such names were looked at and are kept apart
 """
 import re
 import sys
