@@ -3,4 +3,4 @@
 
 mod array_vec;
 
-pub use array_vec::ArrayVec;
+pub use array_vec::{ArrayVec, Full};

@@ -5,7 +5,8 @@
 ghost use Rattle.std.specs.Prelude.{◌≡◌, length, All};
 ghost use Rattle.cases.specs.Worked.{Holds, worked};
 
-use anyhow::anyhow;
+use anyhow::Context;
+use faults::Fault;
 use layout::{ExitPath, Pair};
 use rules::{CompareAlways, FiveStage, Rule};
 use sets::PathSet;
@@ -55,16 +56,13 @@ fn spelled(heap: Global, text: &str) -> Result<Option<Vec<u8>>, AllocError> {
 }
 
 // The last router, link, session and path, field by field.
-fn last_records(rt: &HostRuntime, table: &Table) -> anyhow::Result<()> {
+fn last_records(rt: &impl Print, table: &Table) -> anyhow::Result<()> {
     if let Some(router) = table.routers().last() {
-        let cluster = router.cluster;
-        let role = if router.role.is_client() { 0 } else { 1 };
-        println!(rt; "  last router cluster {cluster} role {role}")?;
+        println!(rt; "  last router cluster {} role {}", router.cluster, u8::from(router.role))?;
     }
     if let Some(link) = table.links().last() {
         let Pair { a, b } = link.ends;
-        let metric = link.metric;
-        println!(rt; "  last link {a} {b} metric {metric}")?;
+        println!(rt; "  last link {a} {b} metric {}", link.metric)?;
     }
     if let Some(session) = table.sessions().last() {
         let Pair { a, b } = session.ends;
@@ -76,64 +74,59 @@ fn last_records(rt: &HostRuntime, table: &Table) -> anyhow::Result<()> {
     Ok(())
 }
 
-fn last_path(rt: &HostRuntime, path: ExitPath) -> anyhow::Result<()> {
-    let exit_point = path.exit_point;
-    let neighbour_as = path.neighbour_as;
-    let local_pref = path.local_pref;
-    let as_path_len = path.as_path_len;
-    let med = path.med;
-    let exit_cost = path.exit_cost;
-    let speaker = path.speaker;
+fn last_path(rt: &impl Print, path: ExitPath) -> anyhow::Result<()> {
     println!(rt;
-        "  last path exit point {exit_point} AS {neighbour_as} preference {local_pref} length {as_path_len} MED {med} cost {exit_cost} speaker {speaker}"
+        "  last path exit point {} AS {} preference {} length {} MED {} cost {} speaker {}",
+        path.exit_point,
+        path.neighbour_as,
+        path.local_pref,
+        path.as_path_len,
+        path.med,
+        path.exit_cost,
+        path.speaker
     )?;
     Ok(())
 }
 
-// The members of a set, and the end of the line.
-fn numbers(rt: &HostRuntime, set: PathSet) -> anyhow::Result<()> {
-    for p in 0..u64::BITS {
-        if set.contains(p) {
-            print!(rt; " {p}")?;
-        }
+// What a rule keeps of a set.
+fn keep<R: Rule>(
+    rt: &impl Print,
+    name: &str,
+    rule: R,
+    paths: &[ExitPath],
+    set: PathSet,
+) -> anyhow::Result<()> {
+    print!(rt; "  {name}")?;
+    for p in rule.keep(paths, set) {
+        print!(rt; " {p}")?;
     }
     println!(rt; "")?;
     Ok(())
 }
 
-// What each rule keeps of a set.
-fn keep(rt: &HostRuntime, paths: &[ExitPath], set: PathSet) -> anyhow::Result<()> {
-    print!(rt; "  all")?;
-    numbers(rt, rules::All.keep(paths, set))?;
-    print!(rt; "  five-stage")?;
-    numbers(rt, FiveStage.keep(paths, set))?;
-    print!(rt; "  compare-always")?;
-    numbers(rt, CompareAlways.keep(paths, set))
-}
-
-fn play(rt: &HostRuntime, name: &str, bytes: &[u8], set: Option<PathSet>) -> anyhow::Result<()> {
-    match Table::read(bytes) {
-        Ok(table) => {
-            if let Some(set) = set {
-                println!(rt; "{name}:")?;
-                return keep(rt, table.paths(), set);
-            }
-            let routers = table.routers().len();
-            let links = table.links().len();
-            let sessions = table.sessions().len();
-            let paths = table.paths().len();
-            println!(rt;
-                "{name}: {routers} routers, {links} links, {sessions} sessions, {paths} paths"
-            )?;
-            last_records(rt, &table)
-        }
+fn play(rt: &impl Print, name: &str, bytes: &[u8], set: Option<PathSet>) -> anyhow::Result<()> {
+    let table = match Table::read(bytes) {
+        Ok(table) => table,
         Err(fault) => {
-            let number = fault.number();
-            let place = fault.place();
-            println!(rt; "{name}: {number} at {place}")?;
-            Ok(())
+            println!(rt; "{name}: {} at {}", fault.number(), fault.place())?;
+            return Ok(());
         }
+    };
+    let paths = table.paths();
+    if let Some(set) = set {
+        println!(rt; "{name}:")?;
+        keep(rt, "all", rules::All, paths, set)?;
+        keep(rt, "five-stage", FiveStage, paths, set)?;
+        return keep(rt, "compare-always", CompareAlways, paths, set);
     }
+    println!(rt;
+        "{name}: {} routers, {} links, {} sessions, {} paths",
+        table.routers().len(),
+        table.links().len(),
+        table.sessions().len(),
+        paths.len()
+    )?;
+    last_records(rt, &table)
 }
 
 // The set whose word a text spells in eight bytes, the highest first.
@@ -141,32 +134,21 @@ fn set(heap: Global, text: &str) -> Result<Option<PathSet>, AllocError> {
     let Some(bytes) = spelled(heap, text)? else {
         return Ok(None);
     };
-    match bytes.as_slice() {
-        &[a, b, c, d, e, f, g, h] => {
-            let bits = u64::from_be_bytes([a, b, c, d, e, f, g, h]);
-            Ok(Some(PathSet::from_bits(bits)))
-        }
-        _ => Ok(None),
-    }
+    let word = bytes.as_slice().as_array().copied();
+    Ok(word.map(|word| PathSet::from(u64::from_be_bytes(word))))
 }
 
 // A line is a name, a colon and the bytes, and where rules are asked a semicolon and a set.
 fn line(rt: &HostRuntime, text: &str) -> anyhow::Result<()> {
-    let Some((name, rest)) = text.split_once(':') else {
-        return Err(anyhow!("a line without a colon"));
-    };
-    let mut table = rest;
-    let mut asked = None;
-    if let Some((bytes, word)) = rest.split_once(';') {
-        table = bytes;
-        asked = set(rt.alloc(), word)?;
-        if asked.is_none() {
-            return Err(anyhow!("a line whose set is not eight bytes"));
+    let (name, rest) = text.split_once(':').context("a line without a colon")?;
+    let (table, asked) = match rest.split_once(';') {
+        Some((table, word)) => {
+            let set = set(rt.alloc(), word)?.context("a line whose set is not eight bytes")?;
+            (table, Some(set))
         }
-    }
-    let Some(bytes) = spelled(rt.alloc(), table)? else {
-        return Err(anyhow!("a line that spells no bytes"));
+        None => (rest, None),
     };
+    let bytes = spelled(rt.alloc(), table)?.context("a line that spells no bytes")?;
     play(rt, name, bytes.as_slice(), asked)
 }
 

@@ -4,6 +4,7 @@ use Rattle.std.proofs.lemmas.List.Elements.{Contains-get_or, Contains-append_rig
 use Rattle.std.proofs.lemmas.Bool.{eqb-true, eq-eqb, cases_lt, cond-true, cond_both}
 use Rattle.layout.specs.WellFormed.{Same, LinkFits, Chain, stay, along}
 use Rattle.layout.specs.declared.link.Link.{Link}
+use Rattle.layout.proofs.Chains.{end_below as pair_end_below}
 use Rattle.layout.proofs.Pairs.{decides_same}
 use Rattle.costs.specs.Cost.{Cost, CostLaws, Fits, AtMost, lesser}
 use Rattle.costs.specs.Least.{joins, by_links, direct, over}
@@ -20,8 +21,7 @@ same_from_joins l a b h = (decides_same l.ends (record { a = a; b = b })).0 h
 
 -- the far end of a link is below n
 pub end_below : (n : ℕ) (l : Link) (a b : ℕ) → LinkFits n l → Same l.ends (record { a = a; b = b }) → b < n
-end_below n l a b fits (inl h) = subst (λ x. x < n) h.1 fits.0.1
-end_below n l a b fits (inr h) = subst (λ x. x < n) h.0 fits.0.0
+end_below n l a b fits same = pair_end_below n l.ends a b (fits.0.0, fits.0.1) same
 
 module _ {C : Type 0} {cost : Cost C} (laws : CostLaws cost) where
   -- what is true of d and of every link between a and b is true of the lesser of them

@@ -3,16 +3,14 @@ use Rattle.std.proofs.Common.{◌≡◌, ℕ, zero, suc, ◌^◌, ◌<◌, ◌�
 use lib.Bits.{bit_or}
 use lib.Count.{ones}
 use Rattle.std.proofs.lemmas.Nat.{pow_pos, pow_below, or_lt, ones-le}
-use Rattle.std.proofs.lemmas.List.Elements.{All-head, All-tail, Contains-get_or, Contains-append_right}
+use Rattle.std.proofs.lemmas.List.Elements.{All-head, All-tail, Contains-append_right}
 use Rattle.std.proofs.lemmas.Bool.{both_ways, cases_Bool, cases_eq, or_cases, eqb-true}
 use Rattle.sets.specs.Members.{member}
 use Rattle.sets.proofs.Digits.{member_none}
 use Rattle.sets.proofs.Single.{member_with}
 use Rattle.sets.proofs.Counting.{ones_with}
+use Rattle.layout.proofs.Pairs.{has_first}
 use Rattle.costs.specs.Once.{Once}
-
-pub has_first : (v : ℕ) (vs : List ℕ) → Contains (v ∷ vs) v
-has_first v vs = Contains-get_or (v ∷ vs) 0 v (omega arith)
 
 pub has_later : (v : ℕ) (vs : List ℕ) (w : ℕ) → Contains vs w → Contains (v ∷ vs) w
 has_later v vs w h = Contains-append_right (v ∷ []) vs w h

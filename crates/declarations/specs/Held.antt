@@ -1,12 +1,21 @@
 -- What has been declared, as plain lists. Assumes nothing.
-use Rattle.std.specs.Prelude.{Ok, Err, Result}
-use Rattle.arrays.specs.Items.{listed}
+use Rattle.std.specs.Prelude.{ℕ, cond, ◌&&◌, List, length, Ok, Err, Result, nat_lt}
 use Rattle.faults.specs.declared.table.TableFault.{TableFault}
+use Rattle.faults.specs.declared.table.TableFault.TheVariants.{OutOfRange, BadPair}
+use Rattle.layout.specs.Checks.{wrong_pair}
 use Rattle.layout.specs.Table.{Declared}
+use Rattle.layout.specs.declared.link.Pair.{Pair}
 use Rattle.declarations.specs.declared.declarations.Declarations.{Declarations}
 
 abbrev pub declared_in : Declarations → Declared
-declared_in l = record { routers = listed l.routers; links = listed l.links; sessions = listed l.sessions; paths = listed l.paths }
+declared_in l = record { routers = l.routers; links = l.links; sessions = l.sessions; paths = l.paths }
+
+-- whether a record at a place may join two routers: both are declared, and the pair is none of the earlier ones
+abbrev pub joining : Declared → ℕ → Pair → List Pair → Result (Unit {0}) TableFault
+joining t place p earlier =
+    cond (nat_lt p.a (length t.routers) && nat_lt p.b (length t.routers))
+    (cond (wrong_pair p earlier) (Err (BadPair place)) (Ok tt))
+    (Err (OutOfRange place))
 
 -- what one more record came to: what is declared then, or the fault
 abbrev pub outcome : {A : Type 0} → Result A TableFault → Declared → Result Declared TableFault

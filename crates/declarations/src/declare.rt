@@ -1,13 +1,13 @@
-ghost use Rattle.std.specs.Prelude.{◌≡◌, ◌&&◌, length, OnErr, nat_lt};
+ghost use Rattle.std.specs.Prelude.{◌≡◌, ◌&&◌, length, map, OnErr, nat_lt};
 ghost use Rattle.layout.specs.Checks.{declaring, clients_of_one};
 ghost use Rattle.layout.specs.Table.{nothing};
 ghost use Rattle.records.specs.Readings.{kind_in, body_in};
 ghost use Rattle.records.specs.declared.kind.Kind.TheVariants.{Router as router_kind, Link as link_kind, Session as session_kind, Path as path_kind};
-ghost use Rattle.declarations.specs.Held.{declared_in, outcome};
+ghost use Rattle.declarations.specs.Held.{declared_in, joining, outcome};
 
 use crate::declarations::Declarations;
 use crate::numbers::four_bytes;
-use crate::pairs::repeated;
+use crate::pairs::{Joins, repeated};
 use arrays::ArrayVec;
 use faults::TableFault;
 use layout::{ExitPath, Link, Pair, Role, Router, Session};
@@ -18,23 +18,11 @@ impl Declarations {
     pub fn new() -> Declarations
         ensures { declared_in result ≡ nothing }
     {
-        let ends = Pair { a: 0, b: 0 };
         Declarations {
-            routers: ArrayVec::new(Router {
-                cluster: 0,
-                role: Role::Client,
-            }),
-            links: ArrayVec::new(Link { ends, metric: 0 }),
-            sessions: ArrayVec::new(Session { ends }),
-            paths: ArrayVec::new(ExitPath {
-                exit_point: 0,
-                neighbour_as: 0,
-                local_pref: 0,
-                as_path_len: 0,
-                med: 0,
-                exit_cost: 0,
-                speaker: 0,
-            }),
+            routers: ArrayVec::new(Router::default()),
+            links: ArrayVec::new(Link::default()),
+            sessions: ArrayVec::new(Session::default()),
+            paths: ArrayVec::new(ExitPath::default()),
         }
     }
 
@@ -61,6 +49,25 @@ impl Declarations {
         one.role.is_client() && other.role.is_client() && one.cluster == other.cluster
     }
 
+    // Whether a record may join two routers: both are declared, they differ, and none of the earlier ones of its kind
+    // joins them.
+    fn check_ends<T: Joins>(
+        &self,
+        place: usize,
+        ends: Pair,
+        earlier: &[T],
+    ) -> Result<(), TableFault>
+        ensures { result ≡ joining (declared_in self.now) place ends (map T.Joins.ends earlier.now) }
+    {
+        if !self.declares(ends) {
+            return Err(TableFault::OutOfRange(place));
+        }
+        if ends.a == ends.b || repeated(ends, earlier) {
+            return Err(TableFault::BadPair(place));
+        }
+        Ok(())
+    }
+
     fn router(&mut self, place: usize, body: &[u8; 2]) -> Result<(), TableFault>
         ensures value { outcome result (declared_in self.new) ≡ declaring (declared_in self.old) place router_kind body.now }
         ensures kept { OnErr result (declared_in self.new ≡ declared_in self.old) }
@@ -69,16 +76,11 @@ impl Declarations {
             return Err(TableFault::TooMany(place));
         }
         let cluster = body[0];
-        let role = body[1];
-        if cluster >= 32 || role >= 2 {
+        if cluster >= 32 {
             return Err(TableFault::OutOfRange(place));
         }
-        let role = if role == 1 {
-            Role::Reflector
-        } else {
-            Role::Client
-        };
-        let _ = self.routers.push(Router { cluster, role });
+        let role = Role::try_from(body[1]).map_err(|_| TableFault::OutOfRange(place))?;
+        let _ = self.routers.try_push(Router { cluster, role });
         Ok(())
     }
 
@@ -94,13 +96,11 @@ impl Declarations {
             b: body[1],
         };
         let metric = u16::from_be_bytes([body[2], body[3]]);
-        if !self.declares(ends) || metric == 0 {
+        if metric == 0 {
             return Err(TableFault::OutOfRange(place));
         }
-        if ends.a == ends.b || repeated(ends, self.links.as_slice()) {
-            return Err(TableFault::BadPair(place));
-        }
-        let _ = self.links.push(Link { ends, metric });
+        self.check_ends(place, ends, self.links.as_slice())?;
+        let _ = self.links.try_push(Link { ends, metric });
         Ok(())
     }
 
@@ -115,16 +115,11 @@ impl Declarations {
             a: body[0],
             b: body[1],
         };
-        if !self.declares(ends) {
-            return Err(TableFault::OutOfRange(place));
-        }
-        if ends.a == ends.b || repeated(ends, self.sessions.as_slice()) {
-            return Err(TableFault::BadPair(place));
-        }
+        self.check_ends(place, ends, self.sessions.as_slice())?;
         if !self.clients_of_one(ends) {
             return Err(TableFault::BadSession(place));
         }
-        let _ = self.sessions.push(Session { ends });
+        let _ = self.sessions.try_push(Session { ends });
         Ok(())
     }
 
@@ -140,7 +135,7 @@ impl Declarations {
         if exit_point as usize >= self.routers.len() || as_path_len == 0 {
             return Err(TableFault::OutOfRange(place));
         }
-        let _ = self.paths.push(ExitPath {
+        let _ = self.paths.try_push(ExitPath {
             exit_point,
             neighbour_as: four_bytes(body, 1),
             local_pref: four_bytes(body, 5),

@@ -33,10 +33,8 @@ impl Joins for Session {
 pub(crate) fn repeated<T: Joins>(pair: Pair, earlier: &[T]) -> bool
     ensures { result ≡ repeats pair (map T.Joins.ends earlier.now) }
 {
-    for one in earlier {
-        if pair.same(one.ends()) {
-            return true;
-        }
-    }
-    false
+    earlier
+        .iter()
+        .map(|one| one.ends())
+        .any(|other| pair.same(other))
 }

@@ -1,24 +1,32 @@
-ghost use Rattle.std.specs.Prelude.{◌≡◌};
-ghost use Rattle.faults.specs.Faults.{number_of, layer_of, place_of};
-ghost use Rattle.faults.specs.declared.load.LoadFault.TheVariants.{Graph as in_graph};
-
+use crate::fault::Fault;
 use crate::layer::Layer;
+use thiserror::Error;
 
 // What is wrong with the routers and links as a whole, and the offset of a router's record.
-#[derive(Clone, Copy)]
+#[derive(Clone, Copy, Debug, PartialEq, Eq, Error)]
 pub enum GraphFault {
     // There is no router.
+    #[error("byte 0: there is no router")]
     NoRouter,
     // A client's cluster has no reflector: the lowest such client.
+    #[error("byte {0}: the cluster of this client has no reflector")]
     NoReflector(usize),
     // The links do not join a router to router 0: the lowest such router.
+    #[error("byte {0}: the links do not join this router to router 0")]
     NotJoined(usize),
 }
 
-impl GraphFault {
-    pub fn number(self) -> u8
-        ensures { result ≡ number_of (in_graph self) }
-    {
+impl Fault for GraphFault {
+    ghost use Rattle.faults.specs.Faults.{number_of, layer_of, place_of};
+    ghost use Rattle.faults.specs.declared.load.LoadFault.TheVariants.{Graph as in_graph};
+
+    ghost number = { λ fault. number_of (in_graph fault) };
+
+    ghost layer = { λ fault. layer_of (in_graph fault) };
+
+    ghost place = { λ fault. place_of (in_graph fault) };
+
+    fn number(self) -> u8 {
         match self {
             GraphFault::NoRouter => 8,
             GraphFault::NoReflector(_) => 9,
@@ -26,15 +34,11 @@ impl GraphFault {
         }
     }
 
-    pub fn layer(self) -> Layer
-        ensures { result ≡ layer_of (in_graph self) }
-    {
+    fn layer(self) -> Layer {
         Layer::Graph
     }
 
-    pub fn place(self) -> usize
-        ensures { result ≡ place_of (in_graph self) }
-    {
+    fn place(self) -> usize {
         match self {
             GraphFault::NoRouter => 0,
             GraphFault::NoReflector(place) => place,

@@ -1,5 +1,5 @@
 // The part of the library that refuses.
-#[derive(Clone, Copy)]
+#[derive(Clone, Copy, Debug, PartialEq, Eq)]
 pub enum Layer {
     Record,
     Table,

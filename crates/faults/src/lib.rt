@@ -2,7 +2,7 @@
 #![tactic(auto)]
 
 mod call;
-mod display;
+mod fault;
 mod graph;
 mod layer;
 mod load;
@@ -10,6 +10,7 @@ mod record;
 mod table;
 
 pub use call::CallFault;
+pub use fault::Fault;
 pub use graph::GraphFault;
 pub use layer::Layer;
 pub use load::LoadFault;

@@ -1,23 +1,64 @@
-ghost use Rattle.std.specs.Prelude.{◌≡◌};
-ghost use Rattle.faults.specs.Faults.{number_of, layer_of, place_of};
-
+use crate::fault::Fault;
 use crate::graph::GraphFault;
 use crate::layer::Layer;
 use crate::record::RecordFault;
 use crate::table::TableFault;
+use thiserror::Error;
 
 // Why a table is refused: the fault of a lower layer, whole.
-#[derive(Clone, Copy)]
+#[derive(Clone, Copy, Debug, PartialEq, Eq, Error)]
 pub enum LoadFault {
+    #[error(transparent)]
     Record(RecordFault),
+    #[error(transparent)]
     Table(TableFault),
+    #[error(transparent)]
     Graph(GraphFault),
 }
 
-impl LoadFault {
-    pub fn number(self) -> u8
-        ensures { result ≡ number_of self }
-    {
+impl From<RecordFault> for LoadFault {
+    ghost use Rattle.std.specs.Prelude.{◌≡◌};
+    ghost use Rattle.faults.specs.declared.load.LoadFault.TheVariants.{Record};
+
+    ghost from_gives = { λ fault whole. whole ≡ Record fault };
+
+    fn from(fault: RecordFault) -> LoadFault {
+        LoadFault::Record(fault)
+    }
+}
+
+impl From<TableFault> for LoadFault {
+    ghost use Rattle.std.specs.Prelude.{◌≡◌};
+    ghost use Rattle.faults.specs.declared.load.LoadFault.TheVariants.{Table};
+
+    ghost from_gives = { λ fault whole. whole ≡ Table fault };
+
+    fn from(fault: TableFault) -> LoadFault {
+        LoadFault::Table(fault)
+    }
+}
+
+impl From<GraphFault> for LoadFault {
+    ghost use Rattle.std.specs.Prelude.{◌≡◌};
+    ghost use Rattle.faults.specs.declared.load.LoadFault.TheVariants.{Graph};
+
+    ghost from_gives = { λ fault whole. whole ≡ Graph fault };
+
+    fn from(fault: GraphFault) -> LoadFault {
+        LoadFault::Graph(fault)
+    }
+}
+
+impl Fault for LoadFault {
+    ghost use Rattle.faults.specs.Faults.{number_of, layer_of, place_of};
+
+    ghost number = { number_of };
+
+    ghost layer = { layer_of };
+
+    ghost place = { place_of };
+
+    fn number(self) -> u8 {
         match self {
             LoadFault::Record(fault) => fault.number(),
             LoadFault::Table(fault) => fault.number(),
@@ -25,9 +66,7 @@ impl LoadFault {
         }
     }
 
-    pub fn layer(self) -> Layer
-        ensures { result ≡ layer_of self }
-    {
+    fn layer(self) -> Layer {
         match self {
             LoadFault::Record(fault) => fault.layer(),
             LoadFault::Table(fault) => fault.layer(),
@@ -35,9 +74,7 @@ impl LoadFault {
         }
     }
 
-    pub fn place(self) -> usize
-        ensures { result ≡ place_of self }
-    {
+    fn place(self) -> usize {
         match self {
             LoadFault::Record(fault) => fault.place(),
             LoadFault::Table(fault) => fault.place(),

@@ -1,26 +1,35 @@
-ghost use Rattle.std.specs.Prelude.{◌≡◌};
-ghost use Rattle.faults.specs.Faults.{number_of, layer_of, place_of};
-ghost use Rattle.faults.specs.declared.load.LoadFault.TheVariants.{Table as in_table};
-
+use crate::fault::Fault;
 use crate::layer::Layer;
+use thiserror::Error;
 
 // What is wrong with a whole record after those before it, and the offset of its kind byte.
-#[derive(Clone, Copy)]
+#[derive(Clone, Copy, Debug, PartialEq, Eq, Error)]
 pub enum TableFault {
     // It is one more than the most of its kind.
+    #[error("byte {0}: the record is one more than the most of its kind")]
     TooMany(usize),
     // A field is out of range or names a router that is not declared.
+    #[error("byte {0}: a field of the record is out of range or names a router that is not declared")]
     OutOfRange(usize),
     // A link or a session joins a router to itself, or the two routers of an earlier one of its kind.
+    #[error("byte {0}: the record joins a router to itself, or two routers that an earlier one of its kind joins")]
     BadPair(usize),
     // A session is not between two clients of one cluster.
+    #[error("byte {0}: the session is not between two clients of one cluster")]
     BadSession(usize),
 }
 
-impl TableFault {
-    pub fn number(self) -> u8
-        ensures { result ≡ number_of (in_table self) }
-    {
+impl Fault for TableFault {
+    ghost use Rattle.faults.specs.Faults.{number_of, layer_of, place_of};
+    ghost use Rattle.faults.specs.declared.load.LoadFault.TheVariants.{Table as in_table};
+
+    ghost number = { λ fault. number_of (in_table fault) };
+
+    ghost layer = { λ fault. layer_of (in_table fault) };
+
+    ghost place = { λ fault. place_of (in_table fault) };
+
+    fn number(self) -> u8 {
         match self {
             TableFault::TooMany(_) => 4,
             TableFault::OutOfRange(_) => 5,
@@ -29,15 +38,11 @@ impl TableFault {
         }
     }
 
-    pub fn layer(self) -> Layer
-        ensures { result ≡ layer_of (in_table self) }
-    {
+    fn layer(self) -> Layer {
         Layer::Table
     }
 
-    pub fn place(self) -> usize
-        ensures { result ≡ place_of (in_table self) }
-    {
+    fn place(self) -> usize {
         match self {
             TableFault::TooMany(place) => place,
             TableFault::OutOfRange(place) => place,

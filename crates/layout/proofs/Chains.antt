@@ -120,12 +120,12 @@ pub labelled : (links : List Link) → All Labellable links → Labelled links (
 labelled links fits = labelled_rest [] (range_with_len 0 32) links labelled_none fits
 
 -- a chain keeps the label
-end_below : (p : Pair) (v w : ℕ) → (p.a < 32) × (p.b < 32) → Same p (record { a = v; b = w }) → w < 32
-end_below p v w fits (inl h) = subst (λ x. x < 32) h.1 fits.1
-end_below p v w fits (inr h) = subst (λ x. x < 32) h.0 fits.0
+pub end_below : (n : ℕ) (p : Pair) (v w : ℕ) → (p.a < n) × (p.b < n) → Same p (record { a = v; b = w }) → w < n
+end_below n p v w fits (inl h) = subst (λ x. x < n) h.1 fits.1
+end_below n p v w fits (inr h) = subst (λ x. x < n) h.0 fits.0
 
 pub chain_label : (links : List Link) (ls : List ℕ) → Labelled links ls → All Labellable links → {v w : ℕ} → v < 32 → Chain links v w → label ls v ≡ label ls w
 chain_label links ls told fits hv (stay a) = refl
 chain_label links ls told fits hv (along a b c h rest) =
-    let hb : b < 32 = end_below h.0.ends a b (All-contains Labellable links h.0 fits h.1) h.2 in
+    let hb : b < 32 = end_below 32 h.0.ends a b (All-contains Labellable links h.0 fits h.1) h.2 in
     told.keeps a b hv hb h ∙ chain_label links ls told fits hb rest

@@ -1,7 +1,8 @@
 -- The first place that passes a test. Assumes nothing.
-use Rattle.std.proofs.Common.{◌≡◌, ℕ, zero, suc, ◌+◌, ◌<◌, Bool, true, false, cond, List, [], ◌∷◌, length, get_or, Some, None, Option, refl, arith}
+use Rattle.std.proofs.Common.{◌≡◌, ℕ, zero, suc, ◌+◌, ◌<◌, Bool, true, false, cond, List, [], ◌∷◌, length, get_or, Some, None, Option, sym, refl, subst, arith}
 use Rattle.std.proofs.lemmas.Bool.{both_ways}
-use Rattle.layout.specs.Graph.{first_where}
+use Rattle.std.specs.List.{position, position_from}
+use Rattle.std.proofs.lemmas.Iterator.Adapters.{position_from-zero}
 
 module _ {X : Type 0} (p : X → Bool) where
   -- no place passes, or place m is the first that does, counted from i
@@ -21,13 +22,16 @@ module _ {X : Type 0} (p : X → Bool) where
   later i x xs None e h = none_more x xs e h
   later i x xs (Some v) e h = (suc h.0, omega (arith, h.1), omega (arith, h.2), h.3, before_more x xs h.0 e h.4)
 
-  step : (i : ℕ) (x : X) (xs : List X) (b : Bool) → p x ≡ b → First (i + 1) xs (first_where p (i + 1) xs) → First i (x ∷ xs) (cond b (Some i) (first_where p (i + 1) xs))
+  step : (i : ℕ) (x : X) (xs : List X) (b : Bool) → p x ≡ b → First (i + 1) xs (position_from p (i + 1) xs) → First i (x ∷ xs) (cond b (Some i) (position_from p (i + 1) xs))
   step i x xs true e h = (0, omega arith, omega arith, λ d. e, λ k d lt. absurd (omega arith))
-  step i x xs false e h = later i x xs (first_where p (i + 1) xs) e h
+  step i x xs false e h = later i x xs (position_from p (i + 1) xs) e h
 
-  pub first : (i : ℕ) (xs : List X) → First i xs (first_where p i xs)
-  first i [] = λ k d lt. absurd (omega arith)
-  first i (x ∷ xs) = step i x xs (p x) refl (first (i + 1) xs)
+  first_from : (i : ℕ) (xs : List X) → First i xs (position_from p i xs)
+  first_from i [] = λ k d lt. absurd (omega arith)
+  first_from i (x ∷ xs) = step i x xs (p x) refl (first_from (i + 1) xs)
+
+  pub first : (xs : List X) → First 0 xs (position p xs)
+  first xs = subst (First 0 xs) (sym (position_from-zero p xs)) (first_from 0 xs)
 
   none_of : (i : ℕ) (xs : List X) (o : Option ℕ) → (X → (k : ℕ) → k < length xs → (d : X) → p (get_or xs k d) ≡ false) → First i xs o → o ≡ None
   none_of i xs None h f = refl
@@ -35,5 +39,5 @@ module _ {X : Type 0} (p : X → Bool) where
   none_of i (x ∷ xs) (Some v) h f = absurd (both_ways _ (h x f.0 f.2 x) (f.3 x))
 
   -- where no place passes, there is no first
-  pub first_none : (i : ℕ) (xs : List X) → ((k : ℕ) (d : X) → k < length xs → p (get_or xs k d) ≡ false) → first_where p i xs ≡ None
-  first_none i xs h = none_of i xs (first_where p i xs) (λ _ k lt d. h k d lt) (first i xs)
+  pub first_none : (xs : List X) → ((k : ℕ) (d : X) → k < length xs → p (get_or xs k d) ≡ false) → position p xs ≡ None
+  first_none xs h = none_of 0 xs (position p xs) (λ _ k lt d. h k d lt) (first xs)

@@ -13,6 +13,5 @@ pub mod Tells
 pub mod Steps
 pub mod Accepts
 pub mod Promised
-pub mod Loops
 pub mod Progress
 pub mod Certain

@@ -26,8 +26,8 @@ decides_repeats p ps =
 pub decides_wrong : (p : Pair) (ps : List Pair) → Decides (wrong_pair p ps) (Wrong p ps)
 decides_wrong p ps = Decides-or _ _ (Decides-eqb _ _) (decides_repeats p ps)
 
-has_first : (p : Pair) (ps : List Pair) → Contains (p ∷ ps) p
-has_first p ps = Contains-get_or (p ∷ ps) 0 p (omega arith)
+pub has_first : {X : Type 0} (x : X) (xs : List X) → Contains (x ∷ xs) x
+has_first x xs = Contains-get_or (x ∷ xs) 0 x (omega arith)
 
 pub apart_push : (ps : List Pair) (p : Pair) → Apart ps → (Again p ps → ⊥) → Apart (ps ++ p ∷ [])
 apart_push [] p a new = (All-nil (λ q. Same p q → ⊥), tt)

@@ -1,12 +1,13 @@
 -- The checks of the whole tell whether it is led and connected. Assumes nothing.
-use Rattle.std.proofs.Common.{◌≡◌, ℕ, ◌<◌, ◌≤◌, Bool, true, false, not, ◌&&◌, eqb, ◌⊎◌, List, length, get_or, take, Some, None, Ok, Err, Decides, All, Option, Result, sym, refl, ap, ◌∙◌, subst, inl, inr, ⊎_elim, arith}
+use Rattle.std.proofs.Common.{◌≡◌, ℕ, ◌<◌, ◌≤◌, Bool, true, false, not, eqb, ◌⊎◌, List, length, get_or, take, Some, None, Ok, Err, Decides, All, Option, Result, sym, refl, ap, ◌∙◌, subst, inl, inr, ⊎_elim, arith}
 use Rattle.std.proofs.lemmas.List.Elements.{All-weaker}
 use Rattle.std.proofs.lemmas.List.{get_or_default, get_or-take, length-take-le}
 use Rattle.std.proofs.lemmas.Bool.{and_parts, eqb-true, eqb-false, eq-eqb, ne_eqb, not-true, not-false, not_from_true, not_from_false, false≢true, cond-true, cond-false, cases_Bool}
 use Rattle.std.proofs.lemmas.Bool.Decides.{Decides-by_or, Decides-like, not_from_Decides}
+use Rattle.std.specs.List.{position}
 use Rattle.faults.specs.declared.graph.GraphFault.{GraphFault}
 use Rattle.layout.specs.Checks.{is_client}
-use Rattle.layout.specs.Graph.{first_where, has_reflector, unled, Labellable, labels, cut_off, graph_check, whole}
+use Rattle.layout.specs.Graph.{reflects, has_reflector, unled, Labellable, labels, cut_off, graph_check, whole}
 use Rattle.layout.specs.Promise.{Lowest, Unled, CutOff, BreaksWhole}
 use Rattle.layout.specs.Table.{Declared}
 use Rattle.layout.specs.WellFormed.{Is, client, reflector, Chain, Led, LinkFits, Sound, WellFormed}
@@ -17,10 +18,6 @@ use Rattle.layout.proofs.Chains.{Labelled, labelled, chain_label}
 use Rattle.layout.proofs.Checks.{a_client, is_from}
 use Rattle.layout.proofs.Firsts.{First, first, first_none}
 use Rattle.layout.proofs.Lengths.{router_place_is}
-
--- the test of one router: is it the reflector of c?
-abbrev reflects : ℕ → Router → Bool
-reflects c r = not (is_client r.role) && eqb r.cluster c
 
 a_reflector : (c : ℕ) (role : Role) → not (is_client role) ≡ true → ◌≡◌ {A = Router} (record { cluster = c; role = role }) (reflector c)
 a_reflector c Client e = absurd (false≢true e)
@@ -136,33 +133,33 @@ module _ (t : Declared) (s : Sound t) where
   whole_tells =
       ⊎_elim
       (λ e. subst WholeTells (sym (cond-true _ _ _ e)) (eqb-true _ _ e))
-      (λ e. subst WholeTells (sym (cond-false _ _ _ e)) (graph_tells (omega (arith, eqb-false count 0 e)) _ _ (first (unled t.routers) 0 t.routers) (first (cut_off ls) 0 (take count ls))))
+      (λ e. subst WholeTells (sym (cond-false _ _ _ e)) (graph_tells (omega (arith, eqb-false count 0 e)) _ _ (first (unled t.routers) t.routers) (first (cut_off ls) (take count ls))))
       (cases_Bool (eqb count 0))
 
 pub whole_accepts : (t : Declared) → WellFormed t → whole t ≡ Ok t
 whole_accepts t w =
     let none = ne_eqb (length t.routers) 0 (λ e. omega (arith, w.some_router)) in
-    let all_led = first_none (unled t.routers) 0 t.routers (led_passes t.routers w.led) in
-    let all_joined = first_none (cut_off (labels t.links)) 0 (take (length t.routers) (labels t.links)) (λ v d lt. let within : v < length t.routers = omega (arith, row_length t w.sound) in chain_passes t w.sound v d within (w.connected v within)) in
-    cond-false _ _ _ none ∙ ap (λ o. graph_check t o (first_where (cut_off (labels t.links)) 0 (take (length t.routers) (labels t.links)))) all_led ∙ ap (λ q. graph_check t None q) all_joined
+    let all_led = first_none (unled t.routers) t.routers (led_passes t.routers w.led) in
+    let all_joined = first_none (cut_off (labels t.links)) (take (length t.routers) (labels t.links)) (λ v d lt. let within : v < length t.routers = omega (arith, row_length t w.sound) in chain_passes t w.sound v d within (w.connected v within)) in
+    cond-false _ _ _ none ∙ ap (λ o. graph_check t o (position (cut_off (labels t.links)) (take (length t.routers) (labels t.links)))) all_led ∙ ap (λ q. graph_check t None q) all_joined
 
 -- what the answers of the single checks come to
 module _ (t : Declared) (s : Sound t) where
   pub all_labellable : All Labellable t.links
   all_labellable = fits t s
 
-  some_below : {X : Type 0} (p : X → Bool) (xs : List X) (v : ℕ) → length xs ≤ 32 → Some v ≡ first_where p 0 xs → v < 32
+  some_below : {X : Type 0} (p : X → Bool) (xs : List X) (v : ℕ) → length xs ≤ 32 → Some v ≡ position p xs → v < 32
   some_below p xs v few e =
-      let f : First p 0 xs (Some v) = subst (First p 0 xs) (sym e) (first p 0 xs) in
+      let f : First p 0 xs (Some v) = subst (First p 0 xs) (sym e) (first p xs) in
       omega (arith, f.1, f.2)
 
-  pub unled_below : (v : ℕ) → Some v ≡ first_where (unled t.routers) 0 t.routers → v < 32
+  pub unled_below : (v : ℕ) → Some v ≡ position (unled t.routers) t.routers → v < 32
   unled_below v e = some_below (unled t.routers) t.routers v s.few_routers e
 
-  pub cut_off_below : (v : ℕ) → Some v ≡ first_where (cut_off (labels t.links)) 0 (take (length t.routers) (labels t.links)) → v < 32
+  pub cut_off_below : (v : ℕ) → Some v ≡ position (cut_off (labels t.links)) (take (length t.routers) (labels t.links)) → v < 32
   cut_off_below v e = some_below (cut_off (labels t.links)) (take (length t.routers) (labels t.links)) v (omega (arith, row_length t s, s.few_routers)) e
 
-  pub well_formed : 1 ≤ length t.routers → None ≡ first_where (unled t.routers) 0 t.routers → None ≡ first_where (cut_off (labels t.links)) 0 (take (length t.routers) (labels t.links)) → WellFormed t
+  pub well_formed : 1 ≤ length t.routers → None ≡ position (unled t.routers) t.routers → None ≡ position (cut_off (labels t.links)) (take (length t.routers) (labels t.links)) → WellFormed t
   well_formed some e f =
-      (graph_tells t s some None None (subst (First (unled t.routers) 0 t.routers) (sym e) (first (unled t.routers) 0 t.routers))
-      (subst (First (cut_off (labels t.links)) 0 (take (length t.routers) (labels t.links))) (sym f) (first (cut_off (labels t.links)) 0 (take (length t.routers) (labels t.links))))).1
+      (graph_tells t s some None None (subst (First (unled t.routers) 0 t.routers) (sym e) (first (unled t.routers) t.routers))
+      (subst (First (cut_off (labels t.links)) 0 (take (length t.routers) (labels t.links))) (sym f) (first (cut_off (labels t.links)) (take (length t.routers) (labels t.links))))).1

@@ -1,5 +1,6 @@
 -- The checks of a record against what was declared before it, and what it adds. Assumes nothing.
-use Rattle.std.specs.Prelude.{ℕ, Bool, true, false, cond, not, ◌&&◌, ◌||◌, List, [], ◌∷◌, map, length, Ok, Err, Result, ◌==◌, nat_le, nat_lt, slice_index_or}
+use Rattle.std.specs.Prelude.{ℕ, Bool, true, false, cond, not, ◌&&◌, ◌||◌, List, map, length, Ok, Err, Result, ◌==◌, nat_le, nat_lt, slice_index_or}
+use Rattle.std.specs.List.{list_any}
 use Rattle.faults.specs.declared.table.TableFault.{TableFault}
 use Rattle.faults.specs.declared.table.TableFault.TheVariants.{TooMany, OutOfRange, BadPair, BadSession}
 use Rattle.records.specs.declared.kind.Kind.{Kind}
@@ -22,8 +23,7 @@ same_pair p q = (p.a == q.a && p.b == q.b) || (p.a == q.b && p.b == q.a)
 
 -- whether p is one of the pairs again
 abbrev pub repeats : Pair → List Pair → Bool
-repeats p [] = false
-repeats p (q ∷ qs) = same_pair p q || repeats p qs
+repeats p earlier = list_any (same_pair p) earlier
 
 abbrev pub wrong_pair : Pair → List Pair → Bool
 wrong_pair p earlier = p.a == p.b || repeats p earlier

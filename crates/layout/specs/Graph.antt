@@ -1,6 +1,6 @@
 -- The checks of the routers and links as a whole. Assumes nothing.
-use Rattle.std.specs.Prelude.{ℕ, ◌+◌, ◌*◌, ◌<◌, Bool, false, cond, not, ◌&&◌, ◌||◌, List, [], ◌∷◌, map, length, take, Some, None, Ok, Err, Option, Result, ◌==◌, slice_index}
-use Rattle.std.specs.List.{range_with_len}
+use Rattle.std.specs.Prelude.{ℕ, ◌*◌, ◌<◌, Bool, cond, not, ◌&&◌, List, [], ◌∷◌, map, length, take, Some, None, Ok, Err, Option, Result, ◌==◌, slice_index}
+use Rattle.std.specs.List.{list_any, position, range_with_len}
 use Rattle.faults.specs.declared.graph.GraphFault.{GraphFault}
 use Rattle.faults.specs.declared.graph.GraphFault.TheVariants.{NoRouter, NoReflector, NotJoined}
 use Rattle.layout.specs.Checks.{is_client}
@@ -8,15 +8,13 @@ use Rattle.layout.specs.Table.{Declared}
 use Rattle.layout.specs.declared.link.Link.{Link}
 use Rattle.layout.specs.declared.router.Router.{Router}
 
--- the first place, counted from i, whose element passes
-abbrev pub first_where : {X : Type 0} → (X → Bool) → ℕ → List X → Option ℕ
-first_where p i [] = None
-first_where p i (x ∷ xs) = cond (p x) (Some i) (first_where p (i + 1) xs)
+-- whether a router is a reflector of a cluster
+abbrev pub reflects : ℕ → Router → Bool
+reflects c r = not (is_client r.role) && r.cluster == c
 
 -- whether a cluster has a reflector
 abbrev pub has_reflector : ℕ → List Router → Bool
-has_reflector c [] = false
-has_reflector c (r ∷ rs) = (not (is_client r.role) && r.cluster == c) || has_reflector c rs
+has_reflector c routers = list_any (reflects c) routers
 
 abbrev pub unled : List Router → Router → Bool
 unled routers r = is_client r.role && not (has_reflector r.cluster routers)
@@ -56,4 +54,4 @@ graph_check t (Some v) o = Err (NoReflector (router_place v))
 abbrev pub whole : Declared → Result Declared GraphFault
 whole t =
     cond (length t.routers == 0) (Err NoRouter)
-    (graph_check t (first_where (unled t.routers) 0 t.routers) (first_where (cut_off (labels t.links)) 0 (take (length t.routers) (labels t.links))))
+    (graph_check t (position (unled t.routers) t.routers) (position (cut_off (labels t.links)) (take (length t.routers) (labels t.links))))

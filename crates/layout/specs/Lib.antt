@@ -1,5 +1,6 @@
 pub mod Table
 pub mod Encoding
+pub mod Roles
 pub mod WellFormed
 pub mod Bodies
 pub mod Rules

@@ -7,4 +7,4 @@ mod router;
 
 pub use link::{Link, Pair, Session};
 pub use path::ExitPath;
-pub use router::{Role, Router};
+pub use router::{NoRole, Role, Router};

@@ -1,5 +1,5 @@
 // An external route that one router, its exit point, may learn; its number is its place among the paths.
-#[derive(Clone, Copy)]
+#[derive(Clone, Copy, Debug, Default, PartialEq, Eq)]
 pub struct ExitPath {
     pub exit_point: u8,
     pub neighbour_as: u32,

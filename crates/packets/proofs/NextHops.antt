@@ -70,7 +70,7 @@ module _ {C : Type 0} (cost : Cost C) (laws : CostLaws cost) (t : Declared) wher
       subst (λ x. Found v e (Some x)) (sym same) (below, lowest)
 
   pub hop_found : (v e : ℕ) → Found v e (hop cost t v e)
-  hop_found v e = found v e (hop cost t v e) (first (test v e) 0 (range_with_len 0 n))
+  hop_found v e = found v e (hop cost t v e) (first (test v e) (range_with_len 0 n))
 
   lowest_unique : (P : ℕ → Type 0) (u w : ℕ) → Lowest P u → Lowest P w → u ≡ w
   lowest_unique P u w h g =

@@ -1,9 +1,8 @@
 -- The next hop of a packet towards a router. Assumes nothing.
-use Rattle.std.specs.Prelude.{◌≡◌, ℕ, min, Bool, false, cond, ◌&&◌, ◌||◌, List, [], ◌∷◌, length, Some, None, Contains, Option, ◌==◌}
-use Rattle.std.specs.List.{range_with_len}
+use Rattle.std.specs.Prelude.{◌≡◌, ℕ, min, Bool, cond, ◌&&◌, List, length, Some, None, Contains, Option, ◌==◌}
+use Rattle.std.specs.List.{list_any, position, range_with_len}
 use Rattle.costs.specs.Cost.{Cost}
 use Rattle.costs.specs.Least.{joins, distance}
-use Rattle.layout.specs.Graph.{first_where}
 use Rattle.layout.specs.Promise.{Lowest}
 use Rattle.layout.specs.Table.{Declared}
 use Rattle.layout.specs.WellFormed.{Same}
@@ -32,12 +31,11 @@ module _ {C : Type 0} (cost : Cost C) (t : Declared) where
 
   -- whether one of the links does
   abbrev pub some_leads : ℕ → ℕ → ℕ → List Link → Bool
-  some_leads v e w [] = false
-  some_leads v e w (l ∷ ls) = leads v e w l || some_leads v e w ls
+  some_leads v e w links = list_any (leads v e w) links
 
   -- where v sends a packet that is to leave at e: the lowest router to which a link leads so
   abbrev pub hop : ℕ → ℕ → Option ℕ
-  hop v e = first_where (λ w. some_leads v e w t.links) 0 (range_with_len 0 (length t.routers))
+  hop v e = position (λ w. some_leads v e w t.links) (range_with_len 0 (length t.routers))
 
   -- a link joins v and w, and its cost and then the distance from w to e are the distance from v to e
   abbrev pub Towards : ℕ → ℕ → ℕ → Type 0

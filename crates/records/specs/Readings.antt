@@ -1,6 +1,6 @@
 -- What stands next in a run of records. Assumes nothing.
 use Rattle.std.specs.Prelude.{ℕ, ◌+◌, cond, List, [], ◌∷◌, length, take, drop, Some, None, Ok, Err, Option, Result, nat_lt}
-use Rattle.records.specs.Kinds.{kind_byte, body_length, kind_of}
+use Rattle.records.specs.Kinds.{kind_byte, byte_before, body_length, kind_of}
 use Rattle.faults.specs.declared.record.RecordFault.{RecordFault}
 use Rattle.faults.specs.declared.record.RecordFault.TheVariants.{UnknownKind, CutShort, KindFalls}
 use Rattle.records.specs.declared.kind.Kind.{Kind}
@@ -45,7 +45,7 @@ passing s (found place k body) = record { before = kind_byte k; place = place + 
 passing s (refused fault) = s
 
 abbrev pub standing : Reader → Standing
-standing r = record { before = r.before; place = r.place; rest = drop r.place r.bytes.now }
+standing r = record { before = byte_before r.before; place = r.place; rest = drop r.place r.bytes.now }
 
 -- a record as it is handed out
 abbrev pub kind_in : Record → Kind

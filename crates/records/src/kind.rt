@@ -1,8 +1,10 @@
 ghost use Rattle.std.specs.Prelude.{◌≡◌};
-ghost use Rattle.records.specs.Kinds.{kind_byte, body_length, kind_of};
+ghost use Rattle.records.specs.Kinds.{body_length, kind_byte, IsKindOf};
 
-// What a record declares.
-#[derive(Clone, Copy)]
+use thiserror::Error;
+
+// What a record declares; a table has its records in this order.
+#[derive(Clone, Copy, Debug, PartialEq, Eq, PartialOrd, Ord)]
 pub enum Kind {
     Router,
     Link,
@@ -10,32 +12,43 @@ pub enum Kind {
     Path,
 }
 
-impl Kind {
-    // The kind that a byte begins.
-    pub fn of(byte: u8) -> Option<Kind>
-        ensures { result ≡ kind_of byte }
-    {
+// A byte that begins no record.
+#[derive(Clone, Copy, Debug, PartialEq, Eq, Error)]
+#[error("no record begins with byte {0}")]
+pub struct NoKind(pub u8);
+
+// The kind that a byte begins.
+impl TryFrom<u8> for Kind {
+    type Error = NoKind;
+
+    ghost try_from_gives = { IsKindOf };
+
+    fn try_from(byte: u8) -> Result<Kind, NoKind> {
         match byte {
-            1 => Some(Kind::Router),
-            2 => Some(Kind::Link),
-            3 => Some(Kind::Session),
-            4 => Some(Kind::Path),
-            _ => None,
+            1 => Ok(Kind::Router),
+            2 => Ok(Kind::Link),
+            3 => Ok(Kind::Session),
+            4 => Ok(Kind::Path),
+            _ => Err(NoKind(byte)),
         }
     }
+}
 
-    // The byte that begins a record of this kind.
-    pub fn byte(self) -> u8
-        ensures { result ≡ kind_byte self }
-    {
-        match self {
+// The byte that begins a record of a kind.
+impl From<Kind> for u8 {
+    ghost from_gives = { λ kind byte. byte ≡ kind_byte kind };
+
+    fn from(kind: Kind) -> u8 {
+        match kind {
             Kind::Router => 1,
             Kind::Link => 2,
             Kind::Session => 3,
             Kind::Path => 4,
         }
     }
+}
 
+impl Kind {
     // How many bytes follow that one.
     pub fn body_len(self) -> usize
         ensures { result ≡ body_length self }

@@ -5,6 +5,6 @@ mod kind;
 mod reader;
 mod record;
 
-pub use kind::Kind;
+pub use kind::{Kind, NoKind};
 pub use reader::Reader;
 pub use record::{Placed, Record};

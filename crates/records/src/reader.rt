@@ -11,7 +11,7 @@ use faults::RecordFault;
 pub struct Reader<'a> {
     bytes: &'a [u8],
     place: usize,
-    before: u8,
+    before: Option<Kind>,
 }
 
 // The record of a kind whose body stands in front; none where the bytes end inside it.
@@ -19,22 +19,10 @@ fn record_of<'a>(kind: Kind, bytes: &'a [u8]) -> Option<Record<'a>>
     ensures { MatchOption result (length bytes.now < body_length kind) (λ x. (body_length kind ≤ length bytes.now) × (kind_in x ≡ kind) × (body_in x ≡ take (body_length kind) bytes.now)) }
 {
     match kind {
-        Kind::Router => match bytes.first_chunk() {
-            Some(body) => Some(Record::Router(body)),
-            None => None,
-        },
-        Kind::Link => match bytes.first_chunk() {
-            Some(body) => Some(Record::Link(body)),
-            None => None,
-        },
-        Kind::Session => match bytes.first_chunk() {
-            Some(body) => Some(Record::Session(body)),
-            None => None,
-        },
-        Kind::Path => match bytes.first_chunk() {
-            Some(body) => Some(Record::Path(body)),
-            None => None,
-        },
+        Kind::Router => bytes.first_chunk().map(Record::Router),
+        Kind::Link => bytes.first_chunk().map(Record::Link),
+        Kind::Session => bytes.first_chunk().map(Record::Session),
+        Kind::Path => bytes.first_chunk().map(Record::Path),
     }
 }
 
@@ -46,7 +34,7 @@ impl<'a> Reader<'a> {
         Reader {
             bytes,
             place: 0,
-            before: 0,
+            before: None,
         }
     }
 
@@ -56,21 +44,17 @@ impl<'a> Reader<'a> {
         ensures stands { standing self.new ≡ passing (standing self.old) (answered result) }
     {
         let place = self.place;
-        if place >= self.bytes.len() {
+        let Some(first) = self.bytes.get(place) else {
             return Ok(None);
-        }
-        let Some(kind) = Kind::of(self.bytes[place]) else {
-            return Err(RecordFault::UnknownKind(place));
         };
+        let kind = Kind::try_from(*first).map_err(|_| RecordFault::UnknownKind(place))?;
         let behind = place + 1;
-        let Some(record) = record_of(kind, &self.bytes[behind..]) else {
-            return Err(RecordFault::CutShort(place));
-        };
-        if kind.byte() < self.before {
+        let record = record_of(kind, &self.bytes[behind..]).ok_or(RecordFault::CutShort(place))?;
+        if Some(kind) < self.before {
             return Err(RecordFault::KindFalls(place));
         }
         self.place = behind + kind.body_len();
-        self.before = kind.byte();
+        self.before = Some(kind);
         Ok(Some(Placed { place, record }))
     }
 }

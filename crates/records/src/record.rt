@@ -1,5 +1,5 @@
 // A record's body by its kind: a part of the bytes that were read.
-#[derive(Clone, Copy)]
+#[derive(Clone, Copy, Debug, PartialEq, Eq)]
 pub enum Record<'a> {
     Router(&'a [u8; 2]),
     Link(&'a [u8; 4]),
@@ -8,7 +8,7 @@ pub enum Record<'a> {
 }
 
 // A record and the offset of its kind byte.
-#[derive(Clone, Copy)]
+#[derive(Clone, Copy, Debug, PartialEq, Eq)]
 pub struct Placed<'a> {
     pub place: usize,
     pub record: Record<'a>,

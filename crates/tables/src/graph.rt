@@ -1,13 +1,13 @@
-ghost use Rattle.std.specs.Prelude.{◌≡◌, ◌≤◌, not, ◌&&◌, map, take, All, ◌==◌};
-ghost use Rattle.layout.specs.Checks.{is_client};
-ghost use Rattle.layout.specs.Graph.{first_where, has_reflector, unled, relabelled, Labellable, labels, cut_off};
-ghost use Rattle.std.specs.List.{range_with_len};
+ghost use Rattle.std.specs.Prelude.{◌≡◌, ◌≤◌, map, take, All};
+ghost use Rattle.std.specs.List.{position, range_with_len};
+ghost use Rattle.layout.specs.Graph.{reflects, has_reflector, unled, relabelled, Labellable, labels, cut_off};
 
 use layout::{Link, Router};
+use std::array;
 
 // Whether a router is a reflector of a cluster.
 fn reflects(router: Router, cluster: u8) -> bool
-    ensures { result ≡ (not (is_client router.role) && router.cluster == cluster) }
+    ensures { result ≡ reflects cluster router }
 {
     !router.role.is_client() && router.cluster == cluster
 }
@@ -16,12 +16,7 @@ fn reflects(router: Router, cluster: u8) -> bool
 fn reflected(cluster: u8, routers: &[Router]) -> bool
     ensures { result ≡ has_reflector cluster routers.now }
 {
-    for router in routers {
-        if reflects(*router, cluster) {
-            return true;
-        }
-    }
-    false
+    routers.iter().any(|router| reflects(*router, cluster))
 }
 
 // Whether a router is a client of a cluster without a reflector.
@@ -33,14 +28,9 @@ fn is_unled(router: Router, routers: &[Router]) -> bool
 
 // The first such client.
 pub(crate) fn unled_client(routers: &[Router]) -> Option<usize>
-    ensures { result ≡ first_where (unled routers.now) 0 routers.now }
+    ensures { result ≡ position (unled routers.now) routers.now }
 {
-    for (v, router) in routers.iter().enumerate() {
-        if is_unled(*router, routers) {
-            return Some(v);
-        }
-    }
-    None
+    routers.iter().position(|router| is_unled(*router, routers))
 }
 
 // Gives the new label to all that have the old one.
@@ -58,11 +48,7 @@ fn relabel(labels: &mut [u8], old: u8, new: u8)
 fn own_labels() -> [u8; 32]
     ensures { result ≡ range_with_len 0 32 }
 {
-    let mut labels = [0; 32];
-    for v in 0..32u8 {
-        labels[v as usize] = v;
-    }
-    labels
+    array::from_fn(|v| v as u8)
 }
 
 // Labels of the routers: one label for all that links join.
@@ -83,14 +69,9 @@ fn labelled(links: &[Link]) -> [u8; 32]
 pub(crate) fn cut_off_router(count: usize, links: &[Link]) -> Option<usize>
     requires few { count ≤ 32 }
     requires declared { All Labellable links.now }
-    ensures { result ≡ first_where (cut_off (labels links.now)) 0 (take count (labels links.now)) }
+    ensures { result ≡ position (cut_off (labels links.now)) (take count (labels links.now)) }
 {
     let labels = labelled(links);
     let first = labels[0];
-    for v in 0..count {
-        if labels[v] != first {
-            return Some(v);
-        }
-    }
-    None
+    labels[..count].iter().position(|label| *label != first)
 }

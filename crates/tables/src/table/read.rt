@@ -41,21 +41,9 @@ impl Table {
     {
         let mut declarations = Declarations::new();
         let mut reader = Reader::new(bytes);
-        loop {
-            let next = match reader.next() {
-                Ok(next) => next,
-                Err(fault) => return Err(LoadFault::Record(fault)),
-            };
-            let Some(found) = next else {
-                break;
-            };
-            if let Err(fault) = declarations.declare(found) {
-                return Err(LoadFault::Table(fault));
-            }
+        while let Some(found) = reader.next()? {
+            declarations.declare(found)?;
         }
-        match checked(declarations) {
-            Ok(table) => Ok(table),
-            Err(fault) => Err(LoadFault::Graph(fault)),
-        }
+        Ok(checked(declarations)?)
     }
 }

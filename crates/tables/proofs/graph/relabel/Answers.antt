@@ -1,6 +1,6 @@
-use Rattle.std.proofs.Common.{◌<◌, ◌++◌, map, length, get_or, set, sym, ap, ◌∙◌, arith}
+use Rattle.std.proofs.Common.{◌<◌, length, get_or, set, sym, ap, ◌∙◌, arith}
 use Rattle.std.proofs.lemmas.List.Edits.{map_over_more}
-use Rattle.std.proofs.lemmas.List.{take_all, drop_all, append-nil, get_or_default}
+use Rattle.std.proofs.lemmas.List.{get_or_default}
 use Rattle.layout.specs.Graph.{relabelled}
 use Rattle.layout.proofs.Chains.{hit, miss}
 use Rattle.tables.proofs.graph.relabel.Goals as goal
@@ -18,9 +18,3 @@ loop-label-preserved c =
       | then-label-old w ↦ w.labels-is ∙ ap (set ys i) (sym (hit _ _ x w.if-label-old.true)) ∙ next
       | else-label-old w ↦ w.labels-is ∙ ap (set ys i) (sym (miss c.args.old c.args.new x w.if-label-old.false)) ∙ next
     ]
-
-pub returns : goal.returns
-returns c =
-    let f = relabelled c.args.old c.args.new in
-    let all = c.loop-label-test.false in
-    c.loop-label.invariant ∙ (λ k. map f (take_all _ _ all k) ++ drop_all _ _ all k) ∙ append-nil _

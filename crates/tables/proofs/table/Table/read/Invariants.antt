@@ -5,9 +5,9 @@ use Rattle.declarations.specs.Held.{declared_in}
 use Rattle.tables.proofs.table.Table.read.Given as goal
 
 -- what is left tells the same as all
-abbrev pub invariant-loop-next : goal.invariant-loop-next
-invariant-loop-next l = Progress l.bytes (declared_in l.declarations) (standing l.reader)
+abbrev pub invariant-loop-found : goal.invariant-loop-found
+invariant-loop-found l = Progress l.bytes (declared_in l.declarations) (standing l.reader)
 
 -- the bytes that are left
-abbrev pub decreases-loop-next : goal.decreases-loop-next
-decreases-loop-next l = length (standing l.reader).rest
+abbrev pub decreases-loop-found : goal.decreases-loop-found
+decreases-loop-found l = length (standing l.reader).rest
