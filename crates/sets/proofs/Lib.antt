@@ -8,3 +8,4 @@ pub mod Subsets
 pub mod Smallest
 pub mod Counting
 pub mod Laws
+pub mod Widths

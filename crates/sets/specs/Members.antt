@@ -1,5 +1,5 @@
 -- Which numbers a word stands for. Assumes nothing.
-use Rattle.std.specs.Prelude.{◌≡◌, ℕ, zero, suc, ◌+◌, ◌/◌, ◌%◌, ◌^◌, ◌<◌, Bool, true, false, cond, ◌==◌}
+use Rattle.std.specs.Prelude.{◌≡◌, ℕ, zero, suc, ◌+◌, ◌/◌, ◌%◌, ◌^◌, ◌<◌, min, not, ◌&&◌, Option, MatchOption, Bool, true, false, cond, ◌==◌}
 
 -- whether n is a member of the set that the word w stands for: bit n of w is 1
 unfoldable pub member : ℕ → ℕ → Bool
@@ -21,3 +21,13 @@ Least w m = (member w m ≡ true) × ((k : ℕ) → k < m → member w k ≡ fal
 unfoldable pub members_below : ℕ → ℕ → ℕ
 members_below w zero = 0
 members_below w (suc n) = cond (member w n) 1 0 + members_below w n
+
+-- how many numbers a set can hold: those below its limit that a word of 64 bits has a bit for
+abbrev pub width_of : ℕ → ℕ
+width_of limit = min limit 64
+
+-- a step through a set of numbers below width: the least member comes and is taken out, or none where none is left
+abbrev pub TakesLeast : ℕ → ℕ → Option ℕ → ℕ → Type 0
+TakesLeast width from taken rest =
+    MatchOption taken (Empty from × (rest ≡ from))
+    (λ m. Least from m × (m < width) × ((k : ℕ) → member rest k ≡ (member from k && not (k == m))))

@@ -4,8 +4,6 @@
 // any set: asking for it answers no, and adding or taking it changes nothing.
 #![tactic(auto)]
 
-mod paths;
-mod routers;
+mod bit_set;
 
-pub use paths::PathSet;
-pub use routers::RouterSet;
+pub use bit_set::{BitSet, Iter, PathSet, RouterSet};

@@ -1,6 +1,0 @@
-use Rattle.std.proofs.Common.{refl}
-use Rattle.sets.proofs.Emptiness.{decides_empty}
-use Rattle.sets.proofs.paths.PathSet.is_empty.Goals as goal
-
-pub returns : goal.returns
-returns c = record { members = decides_empty c.args.self.0; word = refl }
