@@ -7,8 +7,8 @@ use sets::PathSet;
 
 // What a router advertises of the paths that it knows.
 pub fn advertised<R: Rule>(rule: &R, paths: &[ExitPath], known: PathSet) -> PathSet
-    ensures value { result.0 ≡ R.kept rule.now paths.now (declared_of paths.now known.0) }
-    ensures steady { Steady (R.kept rule.now) paths.now (declared_of paths.now known.0) }
+    ensures value { result ≡ R.kept rule.now paths.now (declared_of paths.now known) }
+    ensures steady { Steady (R.kept rule.now) paths.now (declared_of paths.now known) }
 {
     rule.keep(paths, known)
 }

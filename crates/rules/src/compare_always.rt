@@ -8,6 +8,7 @@ ghost use Rattle.sets.specs.Members.{member};
 use crate::all::All;
 use crate::extreme::Extreme;
 use crate::rule::Rule;
+use crate::shortest::keep_shortest;
 use layout::ExitPath;
 use selection::Criterion;
 use sets::PathSet;
@@ -22,11 +23,9 @@ impl Rule for CompareAlways {
     ghost laws = { λ _. compare_always_laws };
 
     fn keep(&self, paths: &[ExitPath], set: PathSet) -> PathSet
-        ensures value { result.0 ≡ keep_compare_always paths.now (declared_of paths.now set.0) }
-        ensures plain { (p : ℕ) → Decides (member result.0 p) (CompareAlwaysKeeps paths.now set.0 p) }
+        ensures value { result ≡ keep_compare_always paths.now (declared_of paths.now set) }
+        ensures plain { (p : ℕ) → Decides (member result p) (CompareAlwaysKeeps paths.now set p) }
     {
-        let med = Extreme::new(Criterion::LowestMed, All);
-        let length = Extreme::new(Criterion::ShortestAsPath, med);
-        Extreme::new(Criterion::HighestPreference, length).keep(paths, set)
+        keep_shortest(Extreme::new(Criterion::LowestMed, All), paths, set)
     }
 }

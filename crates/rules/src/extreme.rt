@@ -26,14 +26,12 @@ impl<R> Extreme<R> {
 
 // The paths of a set than which none of it is better, in one pass over the set.
 fn extremes(criterion: Criterion, paths: &[ExitPath], set: PathSet) -> PathSet
-    requires { AllDeclared paths.now set.0 }
-    ensures { result.0 ≡ extremes criterion paths.now set.0 }
+    requires { AllDeclared paths.now set }
+    ensures { result ≡ extremes criterion paths.now set }
 {
     let mut picked = PathSet::empty();
     let mut lowest = u32::MAX;
-    let mut rest = set;
-    while let Some(p) = rest.least() {
-        rest = rest.without(p);
+    for p in set {
         let rank = criterion.rank(paths[p as usize]);
         if rank < lowest {
             lowest = rank;

@@ -9,6 +9,7 @@ use crate::all::All;
 use crate::extreme::Extreme;
 use crate::per_neighbour::PerNeighbour;
 use crate::rule::Rule;
+use crate::shortest::keep_shortest;
 use layout::ExitPath;
 use selection::Criterion;
 use sets::PathSet;
@@ -23,11 +24,10 @@ impl Rule for FiveStage {
     ghost laws = { λ _. five_stage_laws };
 
     fn keep(&self, paths: &[ExitPath], set: PathSet) -> PathSet
-        ensures value { result.0 ≡ keep_five_stage paths.now (declared_of paths.now set.0) }
-        ensures plain { (p : ℕ) → Decides (member result.0 p) (FiveStageKeeps paths.now set.0 p) }
+        ensures value { result ≡ keep_five_stage paths.now (declared_of paths.now set) }
+        ensures plain { (p : ℕ) → Decides (member result p) (FiveStageKeeps paths.now set p) }
     {
         let med = Extreme::new(Criterion::LowestMed, All);
-        let length = Extreme::new(Criterion::ShortestAsPath, PerNeighbour::new(med));
-        Extreme::new(Criterion::HighestPreference, length).keep(paths, set)
+        keep_shortest(PerNeighbour::new(med), paths, set)
     }
 }

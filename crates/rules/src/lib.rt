@@ -9,6 +9,7 @@ mod extreme;
 mod five_stage;
 mod per_neighbour;
 mod rule;
+mod shortest;
 
 pub use advertise::advertised;
 pub use all::All;

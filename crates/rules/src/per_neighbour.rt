@@ -24,13 +24,11 @@ impl<R> PerNeighbour<R> {
 
 // The paths of a set through a neighbour AS.
 fn through(paths: &[ExitPath], set: PathSet, neighbour_as: u32) -> PathSet
-    requires { AllDeclared paths.now set.0 }
-    ensures { result.0 ≡ through paths.now set.0 neighbour_as }
+    requires { AllDeclared paths.now set }
+    ensures { result ≡ through paths.now set neighbour_as }
 {
     let mut found = PathSet::empty();
-    let mut rest = set;
-    while let Some(p) = rest.least() {
-        rest = rest.without(p);
+    for p in set {
         if paths[p as usize].neighbour_as == neighbour_as {
             found = found.with(p);
         }
@@ -46,6 +44,7 @@ impl<R: Rule> Rule for PerNeighbour<R> {
     fn keep(&self, paths: &[ExitPath], set: PathSet) -> PathSet {
         let mut kept = PathSet::empty();
         let mut rest = declared_of(paths, set);
+        // A whole part is taken out each time, so that the rule below is asked once for each neighbour AS.
         while let Some(p) = rest.least() {
             let part = through(paths, rest, paths[p as usize].neighbour_as);
             kept = kept.union(self.below.keep(paths, part));

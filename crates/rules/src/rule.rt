@@ -14,5 +14,5 @@ pub trait Rule {
 
     // What is kept of the declared paths of a set; all other numbers are dropped first.
     fn keep(&self, paths: &[ExitPath], set: PathSet) -> PathSet
-        ensures { result.0 ≡ kept self.now paths.now (declared_of paths.now set.0) };
+        ensures { result ≡ kept self.now paths.now (declared_of paths.now set) };
 }
