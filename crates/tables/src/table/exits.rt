@@ -9,7 +9,7 @@ use sets::PathSet;
 impl Table {
     // The exit paths of a router; none where the router is not declared.
     pub fn exits_at(&self, router: u32) -> PathSet
-        ensures { (p : ℕ) → member result.0 p ≡ leaves_at router (declared self.now).paths p }
+        ensures { (p : ℕ) → member result p ≡ leaves_at router (declared self.now).paths p }
     {
         let mut exits = PathSet::empty();
         let paths = self.paths();

@@ -1,7 +1,5 @@
 use Rattle.std.proofs.Common.{◌<◌, ap, ◌∙◌, arith}
 use Rattle.std.proofs.lemmas.Bool.{eq-eqb, ne_eqb}
-use Rattle.sets.specs.Members.{member}
-use Rattle.sets.specs.declared.paths.PathSet.{PathSet}
 use Rattle.tables.specs.Exits.{leaves_at}
 use Rattle.tables.proofs.Exits.{leaves_here, exits_with, exits_without, exits_all}
 use Rattle.tables.proofs.table.Table.exits_at.Goals as goal
@@ -16,9 +14,10 @@ loop-p-preserved c =
     let here = leaves_here v xs i c.loop-p-test.true in
     elim c.if-path-router.branch [
       | then-path-router w ↦ λ k.
-          ap (λ (s : PathSet). member s.0 k) w.exits-is ∙ w.with-exits.ensures.members k ∙ exits_with (leaves_at v xs) i within (here ∙ eq-eqb _ _ w.if-path-router.true) k _ (c.loop-p.invariant k)
+          rw (w.exits-is, w.with-exits.ensures.members k)
+          (exits_with (leaves_at v xs) i within (here ∙ eq-eqb _ _ w.if-path-router.true) k _ (c.loop-p.invariant k))
       | else-path-router w ↦ λ k.
-          ap (λ (s : PathSet). member s.0 k) w.exits-is ∙ exits_without (leaves_at v xs) i (here ∙ ne_eqb _ _ w.if-path-router.false) k _ (c.loop-p.invariant k)
+          rw w.exits-is (exits_without (leaves_at v xs) i (here ∙ ne_eqb _ _ w.if-path-router.false) k _ (c.loop-p.invariant k))
     ]
 
 pub returns : goal.returns

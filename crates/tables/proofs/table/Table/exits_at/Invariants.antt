@@ -5,4 +5,4 @@ use Rattle.tables.proofs.table.Table.exits_at.Given as goal
 
 -- the set has the exit paths among the first
 abbrev pub invariant-loop-p : goal.invariant-loop-p
-invariant-loop-p l = (k : ℕ) → member l.exits.0 k ≡ (ltb k l.p && leaves_at l.router l.paths k)
+invariant-loop-p l = (k : ℕ) → member l.exits k ≡ (ltb k l.p && leaves_at l.router l.paths k)
