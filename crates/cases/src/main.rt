@@ -58,7 +58,11 @@ fn spelled(heap: Global, text: &str) -> Result<Option<Vec<u8>>, AllocError> {
 // The last router, link, session and path, field by field.
 fn last_records(rt: &impl Print, table: &Table) -> anyhow::Result<()> {
     if let Some(router) = table.routers().last() {
-        println!(rt; "  last router cluster {} role {}", router.cluster, u8::from(router.role))?;
+        println!(rt;
+            "  last router cluster {} role {}",
+            router.cluster,
+            u8::from(router.role)
+        )?;
     }
     if let Some(link) = table.links().last() {
         let Pair { a, b } = link.ends;
@@ -92,7 +96,7 @@ fn last_path(rt: &impl Print, path: ExitPath) -> anyhow::Result<()> {
 fn keep<R: Rule>(
     rt: &impl Print,
     name: &str,
-    rule: R,
+    rule: &R,
     paths: &[ExitPath],
     set: PathSet,
 ) -> anyhow::Result<()> {
@@ -115,9 +119,9 @@ fn play(rt: &impl Print, name: &str, bytes: &[u8], set: Option<PathSet>) -> anyh
     let paths = table.paths();
     if let Some(set) = set {
         println!(rt; "{name}:")?;
-        keep(rt, "all", rules::All, paths, set)?;
-        keep(rt, "five-stage", FiveStage, paths, set)?;
-        return keep(rt, "compare-always", CompareAlways, paths, set);
+        keep(rt, "all", &rules::All, paths, set)?;
+        keep(rt, "five-stage", &FiveStage, paths, set)?;
+        return keep(rt, "compare-always", &CompareAlways, paths, set);
     }
     println!(rt;
         "{name}: {} routers, {} links, {} sessions, {} paths",

@@ -11,7 +11,11 @@ use tables::Table;
 fn kept(rt: &impl Print, table: &Table) -> anyhow::Result<()> {
     let paths = table.paths();
     let kept = advertised(&FiveStage, paths, PathSet::first(u64::BITS));
-    print!(rt; "five-stage keeps {} of {} exit paths", kept.len(), paths.len())?;
+    print!(rt;
+        "five-stage keeps {} of {} exit paths",
+        kept.len(),
+        paths.len()
+    )?;
     let mut mark = ':';
     for p in kept {
         print!(rt; "{mark} P{p}")?;
@@ -35,7 +39,7 @@ fn report(rt: &impl Print, table: &Table) -> anyhow::Result<()> {
 }
 
 // The number and the place, and on standard error the reason in words.
-fn refuse(rt: &impl Print, fault: LoadFault) -> anyhow::Result<()> {
+fn refuse<R: Print + Eprint>(rt: &R, fault: LoadFault) -> anyhow::Result<()> {
     println!(rt; "{} {}", fault.number(), fault.place())?;
     eprintln!(rt; "settle: refused at {fault}")?;
     Ok(())
