@@ -41,8 +41,7 @@ impl Fault for GraphFault {
     fn place(self) -> usize {
         match self {
             GraphFault::NoRouter => 0,
-            GraphFault::NoReflector(place) => place,
-            GraphFault::NotJoined(place) => place,
+            GraphFault::NoReflector(place) | GraphFault::NotJoined(place) => place,
         }
     }
 }

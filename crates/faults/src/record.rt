@@ -40,9 +40,9 @@ impl Fault for RecordFault {
 
     fn place(self) -> usize {
         match self {
-            RecordFault::UnknownKind(place) => place,
-            RecordFault::CutShort(place) => place,
-            RecordFault::KindFalls(place) => place,
+            RecordFault::UnknownKind(place)
+            | RecordFault::CutShort(place)
+            | RecordFault::KindFalls(place) => place,
         }
     }
 }

@@ -44,10 +44,10 @@ impl Fault for TableFault {
 
     fn place(self) -> usize {
         match self {
-            TableFault::TooMany(place) => place,
-            TableFault::OutOfRange(place) => place,
-            TableFault::BadPair(place) => place,
-            TableFault::BadSession(place) => place,
+            TableFault::TooMany(place)
+            | TableFault::OutOfRange(place)
+            | TableFault::BadPair(place)
+            | TableFault::BadSession(place) => place,
         }
     }
 }
