@@ -1,9 +1,9 @@
-ghost use Rattle.std.specs.Prelude.{◌≡◌, ◌&&◌, length, map, OnErr, nat_lt};
-ghost use Rattle.layout.specs.Checks.{declaring, clients_of_one};
+ghost use Rattle.std.specs.Prelude.{◌≡◌, ◌&&◌, length, map, nat_lt};
+ghost use Rattle.layout.specs.Checks.{clients_of_one};
 ghost use Rattle.layout.specs.Table.{nothing};
 ghost use Rattle.records.specs.Readings.{kind_in, body_in};
 ghost use Rattle.records.specs.declared.kind.Kind.TheVariants.{Router as router_kind, Link as link_kind, Session as session_kind, Path as path_kind};
-ghost use Rattle.declarations.specs.Held.{declared_in, joining, outcome};
+ghost use Rattle.declarations.specs.Held.{declared_in, fitting, joining, Declares};
 
 use crate::declarations::Declarations;
 use crate::numbers::four_bytes;
@@ -12,6 +12,19 @@ use arrays::ArrayVec;
 use faults::TableFault;
 use layout::{ExitPath, Link, Pair, Role, Router, Session};
 use records::{Placed, Record};
+
+// Whether a list has room for the record at a place.
+fn check_room<T: Copy, const N: usize>(
+    list: &ArrayVec<T, N>,
+    place: usize,
+) -> Result<(), TableFault>
+    ensures { result ≡ fitting N (length list.now) place }
+{
+    if list.is_full() {
+        return Err(TableFault::TooMany(place));
+    }
+    Ok(())
+}
 
 impl Declarations {
     // Nothing declared.
@@ -69,12 +82,9 @@ impl Declarations {
     }
 
     fn router(&mut self, place: usize, body: &[u8; 2]) -> Result<(), TableFault>
-        ensures value { outcome result (declared_in self.new) ≡ declaring (declared_in self.old) place router_kind body.now }
-        ensures kept { OnErr result (declared_in self.new ≡ declared_in self.old) }
+        ensures { Declares (declared_in self.old) place router_kind body.now result (declared_in self.new) }
     {
-        if self.routers.is_full() {
-            return Err(TableFault::TooMany(place));
-        }
+        check_room(&self.routers, place)?;
         let cluster = body[0];
         if cluster >= 32 {
             return Err(TableFault::OutOfRange(place));
@@ -85,12 +95,9 @@ impl Declarations {
     }
 
     fn link(&mut self, place: usize, body: &[u8; 4]) -> Result<(), TableFault>
-        ensures value { outcome result (declared_in self.new) ≡ declaring (declared_in self.old) place link_kind body.now }
-        ensures kept { OnErr result (declared_in self.new ≡ declared_in self.old) }
+        ensures { Declares (declared_in self.old) place link_kind body.now result (declared_in self.new) }
     {
-        if self.links.is_full() {
-            return Err(TableFault::TooMany(place));
-        }
+        check_room(&self.links, place)?;
         let ends = Pair {
             a: body[0],
             b: body[1],
@@ -105,12 +112,9 @@ impl Declarations {
     }
 
     fn session(&mut self, place: usize, body: &[u8; 2]) -> Result<(), TableFault>
-        ensures value { outcome result (declared_in self.new) ≡ declaring (declared_in self.old) place session_kind body.now }
-        ensures kept { OnErr result (declared_in self.new ≡ declared_in self.old) }
+        ensures { Declares (declared_in self.old) place session_kind body.now result (declared_in self.new) }
     {
-        if self.sessions.is_full() {
-            return Err(TableFault::TooMany(place));
-        }
+        check_room(&self.sessions, place)?;
         let ends = Pair {
             a: body[0],
             b: body[1],
@@ -124,12 +128,9 @@ impl Declarations {
     }
 
     fn path(&mut self, place: usize, body: &[u8; 20]) -> Result<(), TableFault>
-        ensures value { outcome result (declared_in self.new) ≡ declaring (declared_in self.old) place path_kind body.now }
-        ensures kept { OnErr result (declared_in self.new ≡ declared_in self.old) }
+        ensures { Declares (declared_in self.old) place path_kind body.now result (declared_in self.new) }
     {
-        if self.paths.is_full() {
-            return Err(TableFault::TooMany(place));
-        }
+        check_room(&self.paths, place)?;
         let exit_point = body[0];
         let as_path_len = body[9];
         if exit_point as usize >= self.routers.len() || as_path_len == 0 {
@@ -149,8 +150,7 @@ impl Declarations {
 
     // One record more, or the first rule that it breaks.
     pub fn declare(&mut self, found: Placed) -> Result<(), TableFault>
-        ensures value { outcome result (declared_in self.new) ≡ declaring (declared_in self.old) found.entry.place (kind_in found.entry.record) (body_in found.entry.record) }
-        ensures kept { OnErr result (declared_in self.new ≡ declared_in self.old) }
+        ensures { Declares (declared_in self.old) found.entry.place (kind_in found.entry.record) (body_in found.entry.record) result (declared_in self.new) }
     {
         match found.record {
             Record::Router(body) => self.router(found.place, body),

@@ -7,7 +7,7 @@ use layout::ExitPath;
 use sets::PathSet;
 
 // Keeps every path.
-#[derive(Clone, Copy)]
+#[derive(Clone, Copy, Debug, PartialEq, Eq)]
 pub struct All;
 
 impl Rule for All {

@@ -14,7 +14,7 @@ use selection::Criterion;
 use sets::PathSet;
 
 // The highest preference, then the shortest AS path, then the lowest MED, whatever the neighbour AS.
-#[derive(Clone, Copy)]
+#[derive(Clone, Copy, Debug, PartialEq, Eq)]
 pub struct CompareAlways;
 
 impl Rule for CompareAlways {

@@ -10,7 +10,7 @@ use selection::Criterion;
 use sets::PathSet;
 
 // Keeps what the rule below keeps of the best paths by one criterion.
-#[derive(Clone, Copy)]
+#[derive(Clone, Copy, Debug, PartialEq, Eq)]
 pub struct Extreme<R> {
     criterion: Criterion,
     below: R,

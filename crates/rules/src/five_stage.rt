@@ -15,7 +15,7 @@ use selection::Criterion;
 use sets::PathSet;
 
 // The highest preference, then the shortest AS path, then for each neighbour AS the lowest MED.
-#[derive(Clone, Copy)]
+#[derive(Clone, Copy, Debug, PartialEq, Eq)]
 pub struct FiveStage;
 
 impl Rule for FiveStage {

@@ -9,7 +9,7 @@ use layout::ExitPath;
 use sets::PathSet;
 
 // Keeps what the rule below keeps of the paths through each neighbour AS.
-#[derive(Clone, Copy)]
+#[derive(Clone, Copy, Debug, PartialEq, Eq)]
 pub struct PerNeighbour<R> {
     below: R,
 }

@@ -4,7 +4,7 @@ ghost use Rattle.selection.specs.Ranks.{compared, rank};
 use layout::ExitPath;
 
 // By what one path is better than another.
-#[derive(Clone, Copy)]
+#[derive(Clone, Copy, Debug, PartialEq, Eq)]
 pub enum Criterion {
     HighestPreference,
     ShortestAsPath,
