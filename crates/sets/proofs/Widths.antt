@@ -10,6 +10,7 @@ pub below_word : (limit a : ℕ) → a < 2 ^ width_of limit → a < 2 ^ 64
 below_word limit a h = omega (arith, pow_mono {i = width_of limit} {j = 64} (omega arith))
 
 -- what is taken out does not turn on the width
-pub same_difference : (v w a b : ℕ) → a < 2 ^ v → b < 2 ^ v → a < 2 ^ w → b < 2 ^ w → bit_and a (2 ^ v - 1 - b) ≡ bit_and a (2 ^ w - 1 - b)
-same_difference v w a b g h l m =
-    same_set (bit_and a (2 ^ v - 1 - b)) (bit_and a (2 ^ w - 1 - b)) (λ k. member_difference v a b k g h ∙ sym (member_difference w a b k l m))
+pub same_difference : (limit a b : ℕ) → a < 2 ^ width_of limit → b < 2 ^ width_of limit → bit_and a (2 ^ 64 - 1 - b) ≡ bit_and a (2 ^ width_of limit - 1 - b)
+same_difference limit a b g h =
+    same_set (bit_and a (2 ^ 64 - 1 - b)) (bit_and a (2 ^ width_of limit - 1 - b))
+    (λ k. member_difference 64 a b k (below_word limit a g) (below_word limit b h) ∙ sym (member_difference (width_of limit) a b k g h))

@@ -57,7 +57,8 @@ impl<const WIDTH: u32> BitSet<WIDTH> {
 
     // The set with `n` too.
     pub fn with(self, n: u32) -> Self
-        ensures members { (k : ℕ) → member result k ≡ (member self.entry k || (k == n && nat_lt k (width_of WIDTH))) }
+        ensures members { (k : ℕ) →
+            member result k ≡ (member self.entry k || (k == n && nat_lt k (width_of WIDTH))) }
         ensures word { n < width_of WIDTH → result ≡ bit_or self.entry (2 ^ n) }
     {
         if n < WIDTH.min(u64::BITS) {
@@ -91,6 +92,8 @@ impl<const WIDTH: u32> BitSet<WIDTH> {
     pub fn intersection(self, other: Self) -> Self
         ensures members { (k : ℕ) → member result k ≡ (member self.entry k && member other.entry k) }
         ensures word { result ≡ bit_and self.entry other.entry }
+
+        // A set is a word of its width.
         ensures narrow { self.entry < 2 ^ width_of WIDTH }
     {
         Self(self.0 & other.0)
@@ -98,7 +101,8 @@ impl<const WIDTH: u32> BitSet<WIDTH> {
 
     // The numbers in this set that are not in the other.
     pub fn difference(self, other: Self) -> Self
-        ensures members { (k : ℕ) → member result k ≡ (member self.entry k && not (member other.entry k)) }
+        ensures members { (k : ℕ) →
+            member result k ≡ (member self.entry k && not (member other.entry k)) }
         ensures word { result ≡ bit_and self.entry (2 ^ width_of WIDTH - 1 - other.entry) }
     {
         Self(self.0 & !other.0)

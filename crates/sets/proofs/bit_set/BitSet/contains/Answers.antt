@@ -11,4 +11,4 @@ pub returns-else-n-lt-BITS : goal.returns-else-n-lt-BITS
 returns-else-n-lt-BITS g c =
     let past = c.if-n-lt-BITS.false in
     rw (← c.self.view_is)
-    (le-ltb c.args.n 64 past ∙ sym (member_past 64 c.self.inside.0 c.args.n (below_word g.row.WIDTH c.self.inside.0 c.self.invariant) past))
+    (le-ltb c.args.n 64 past ∙ sym (member_past 64 c.self.inside.0 c.args.n (below_word g.row.WIDTH _ c.self.invariant) past))

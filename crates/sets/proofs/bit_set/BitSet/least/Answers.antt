@@ -12,6 +12,6 @@ returns-then-self-eq0 g c = rw (← c.self.view_is) (empty_zero c.self.inside.0 
 
 pub returns-else-self-eq0 : goal.returns-else-self-eq0
 returns-else-self-eq0 g c =
-    let least = least_trailing 64 c.self.inside.0 (omega arith) (below_word g.row.WIDTH c.self.inside.0 c.self.invariant) in
+    let least = least_trailing 64 c.self.inside.0 (omega arith) (below_word g.row.WIDTH _ c.self.invariant) in
     rw (← c.self.view_is)
     (least, member_below (width_of g.row.WIDTH) c.self.inside.0 (count_trailing_zeros 64 c.self.inside.0) c.self.invariant least.0)
