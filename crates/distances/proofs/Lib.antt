@@ -1,2 +1,2 @@
-mod Places
+mod Rows
 mod HeldCosts

@@ -10,7 +10,7 @@ use tables::Table;
 #[derive(Drop)]
 pub struct Distances {
     table: Table,
-    // From router u to router w in place 32 u + w; what lies past the declared routers is of no account.
-    costs: [u32; 1024],
+    // The cost from router a to router b in place b of row a; what lies past the declared routers is of no account.
+    costs: [[u32; 32]; 32],
     ghost least: { ∥ Held (declared table) costs ∥₁ },
 }

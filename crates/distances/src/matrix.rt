@@ -1,81 +1,72 @@
 ghost use Rattle.std.specs.Prelude.{◌≡◌, ℕ, ◌<◌, ◌≤◌, length, All, slice_index};
 ghost use Rattle.costs.specs.Cost.{plain, lesser};
-ghost use Rattle.costs.specs.Least.{direct, over};
-ghost use Rattle.distances.specs.Held.{Costs, unlinked_cost, cost_through};
+ghost use Rattle.costs.specs.Least.{direct};
+ghost use Rattle.distances.specs.Held.{Costs, unlinked_cost, cost_through, Held};
 ghost use Rattle.layout.specs.WellFormed.{LinkFits};
+ghost use Rattle.tables.specs.Accepted.{declared};
 
 use costs::{UNREACHED, join};
 use layout::Link;
+use tables::Table;
 
-// The costs between `count` routers that no link joins.
-fn unlinked(count: usize) -> [u32; 1024]
-    requires { count ≤ 32 }
-    ensures { Costs count unlinked_cost result }
+// The costs between routers that no link joins.
+fn unlinked() -> [[u32; 32]; 32]
+    ensures { Costs 32 unlinked_cost result }
 {
-    let mut costs = [UNREACHED; 1024];
-    for v in 0..count {
-        costs[32 * v + v] = 0;
+    let mut costs = [[UNREACHED; 32]; 32];
+    for (v, row) in costs.iter_mut().enumerate() {
+        row[v] = 0;
     }
     costs
 }
 
-// The lesser of two costs.
-fn lower(a: u32, b: u32) -> u32
-    ensures { result ≡ lesser plain a b }
+// The costs over one link at most.
+fn linked(links: &[Link]) -> [[u32; 32]; 32]
+    requires { All (LinkFits 32) links.now }
+    ensures { Costs 32 (direct plain links.now) result }
 {
-    a.min(b)
-}
-
-// The costs between `count` routers over one link at most.
-fn linked(count: usize, links: &[Link]) -> [u32; 1024]
-    requires few { count ≤ 32 }
-    requires declared { All (LinkFits count) links.now }
-    ensures { Costs count (direct plain links.now) result }
-{
-    let mut costs = unlinked(count);
+    let mut costs = unlinked();
     for link in links {
-        let there = 32 * link.ends.a as usize + link.ends.b as usize;
-        let back = 32 * link.ends.b as usize + link.ends.a as usize;
+        let a = link.ends.a as usize;
+        let b = link.ends.b as usize;
         let metric = link.metric as u32;
-        costs[there] = lower(costs[there], metric);
-        costs[back] = lower(costs[back], metric);
+        costs[a][b] = costs[a][b].min(metric);
+        costs[b][a] = costs[b][a].min(metric);
     }
     costs
 }
 
 // Lowers each cost of a row to that of the way that costs `through` and then goes on by `via`, where that is lower.
-fn relax(row: &mut [u32], through: u32, via: &[u32; 32])
-    requires { length row.old ≡ 32 }
+fn relax(row: &mut [u32; 32], through: u32, via: &[u32; 32])
     ensures { (j : ℕ) → j < 32 → slice_index row.new j ≡ lesser plain (slice_index row.old j) (plain.join through (slice_index via.now j)) }
 {
-    for j in 0..32 {
-        row[j] = lower(row[j], join(through, via[j]));
+    // By place and not by `zip`: of what is written through a `zip` a proof knows only how long it is.
+    for (j, cost) in row.iter_mut().enumerate() {
+        *cost = (*cost).min(join(through, via[j]));
     }
 }
 
-// Lowers the costs between `count` routers to those of the ways through router `k`.
-fn pass(costs: &mut [u32; 1024], count: usize, k: usize)
-    requires few { count ≤ 32 }
-    requires declared { k < count }
-    ensures { Costs count (cost_through k costs.old) costs.new }
+// Lowers the costs between the first routers, a row for each, to those of the ways through router `k`.
+fn pass(costs: &mut [[u32; 32]], k: usize)
+    requires few { length costs.old ≤ 32 }
+    requires declared { k < length costs.old }
+    ensures { Costs (length costs.old) (cost_through k costs.old) costs.new }
 {
-    let mut via = [0; 32];
-    via.copy_from_slice(&costs[32 * k..32 * k + 32]);
-    for i in 0..count {
-        let through = costs[32 * i + k];
-        relax(&mut costs[32 * i..32 * i + 32], through, &via);
+    let via = costs[k];
+    for row in costs {
+        let through = row[k];
+        relax(row, through, &via);
     }
 }
 
-// The least costs between `count` routers over these links.
-pub(crate) fn least(count: usize, links: &[Link]) -> [u32; 1024]
-    requires few { count ≤ 32 }
-    requires declared { All (LinkFits count) links.now }
-    ensures { Costs count (over plain links.now count) result }
+// The least costs between the routers of a table.
+pub(crate) fn least(table: &Table) -> [[u32; 32]; 32]
+    ensures { Held (declared table.now) result }
 {
-    let mut costs = linked(count, links);
-    for k in 0..count {
-        pass(&mut costs, count, k);
+    let mut costs = linked(table.links());
+    let rows = &mut costs[..table.routers().len()];
+    for k in 0..rows.len() {
+        pass(rows, k);
     }
     costs
 }

@@ -1,5 +1,5 @@
 ghost use Rattle.std.specs.Prelude.{◌≡◌, ◌*◌, ◌≤◌, IfOk, All};
-ghost use Rattle.distances.specs.Answered.{declared_by, read, row_answer, between_answer};
+ghost use Rattle.distances.specs.Answered.{declared_by, read, of_router, row_answer, between_answer};
 
 use crate::distances::Distances;
 use faults::CallFault;
@@ -13,33 +13,34 @@ impl Distances {
         &self.table
     }
 
+    // The index of a router, where it is declared.
+    fn index_of(&self, router: u32) -> Result<usize, CallFault>
+        ensures { result ≡ of_router (declared_by self.now) router (Ok router) }
+    {
+        let v = router as usize;
+        if v >= self.table.routers().len() {
+            return Err(CallFault::UndeclaredRouter(router));
+        }
+        Ok(v)
+    }
+
     // The distances from a router to every declared one.
     pub fn row(&self, router: u32) -> Result<&[u32], CallFault>
         ensures value { read result ≡ row_answer (declared_by self.now) router }
         ensures near { IfOk result (λ row. All (λ d. d ≤ 31 * 65535) row.now) }
     {
-        let count = self.table.routers().len();
-        let v = router as usize;
-        if v >= count {
-            return Err(CallFault::UndeclaredRouter(router));
-        }
-        Ok(&self.costs[32 * v..32 * v + count])
+        let v = self.index_of(router)?;
+        let row = &self.costs[v];
+        Ok(&row[..self.table.routers().len()])
     }
 
-    // The distance from one router to another.
+    // The distance from one router to another. Of two undeclared ones the lower is refused.
     pub fn between(&self, from: u32, to: u32) -> Result<u32, CallFault>
         ensures value { result ≡ between_answer (declared_by self.now) from to }
         ensures near { IfOk result (λ d. d ≤ 31 * 65535) }
     {
-        let count = self.table.routers().len();
-        let lower = from.min(to);
-        if lower as usize >= count {
-            return Err(CallFault::UndeclaredRouter(lower));
-        }
-        let higher = from.max(to);
-        if higher as usize >= count {
-            return Err(CallFault::UndeclaredRouter(higher));
-        }
-        Ok(self.costs[32 * from as usize + to as usize])
+        self.index_of(from.min(to))?;
+        self.index_of(from.max(to))?;
+        Ok(self.costs[from as usize][to as usize])
     }
 }

@@ -13,7 +13,7 @@ impl Distances {
         ensures same { declared_by result ≡ declared table }
         ensures least { Held (declared table) result.costs }
     {
-        let costs = least(table.routers().len(), table.links());
+        let costs = least(&table);
         Distances { table, costs }
     }
 }

@@ -1,14 +1,25 @@
-use Rattle.std.proofs.Common.{sym, ◌∙◌, ap₂}
-use Rattle.costs.specs.Cost.{plain, lesser}
-use Rattle.distances.proofs.Places.{over_none, over_more}
+use Rattle.std.proofs.Common.{◌++◌, length, drop, ap, add-one, arith}
+use Rattle.std.proofs.lemmas.Grind.{common_steps}
+use Rattle.costs.specs.Least.{over}
+use Rattle.distances.proofs.HeldCosts.{held_from}
+use Rattle.tables.specs.Accepted.{declared}
 use Rattle.distances.proofs.matrix.least.Goals as goal
 
 pub loop-k-init : goal.loop-k-init
-loop-k-init c = λ a b la lb. c.linked-costs.ensures a b la lb ∙ sym (over_none c.args.links.now a b)
+unfolding over
+loop-k-init c = λ a b la lb. rw (← c.links.ensures.value) (grind (arith, common_steps, c.linked-costs.ensures a b))
 
 pub loop-k-preserved : goal.loop-k-preserved
+unfolding over
 loop-k-preserved c = λ a b la lb.
     let held = c.loop-k.invariant in
     let k = c.loop-k.k in
-    let lk = c.loop-k-test.true in
-    c.pass.ensures a b la lb ∙ ap₂ (lesser plain) (held a b la lb) (ap₂ plain.join (held a k la lk) (held k b lk lb)) ∙ sym (over_more c.args.links.now k a b)
+    rw add-one (grind (arith, common_steps, c.pass.ensures a b, held a b, held a k, held k b))
+
+pub returns : goal.returns
+returns c =
+    let t = declared c.args.table.now in
+    let rows = c.loop-k.rows in
+    let rest = drop (length c.routers.result.now) c.linked-costs.result in
+    let all = ap length c.routers.ensures.value in
+    held_from t (rows ++ rest) c.args.table.now.sound (λ a b la lb. grind (arith, common_steps, c.loop-k.invariant a b))
