@@ -19,6 +19,7 @@ use Rattle.distances.specs.Held.{cost_at, Costs, Held}
 use Rattle.distances.specs.Answered.{declared_by, distances_from}
 use Rattle.distances.specs.declared.distances.Distances.{Distances}
 
+-- costs that are the distances by their definition are held
 pub held_from : (t : Declared) (costs : List (List ℕ)) → ∥ WellFormed t ∥₁ → Costs (length t.routers) (distance plain t) costs → Held t costs
 held_from t costs sound is a b la lb = subst (Distance plain t.links a b) (sym (is a b la lb)) (plain_distance t (known_well_formed t sound) a b la lb)
 

@@ -1,7 +1,7 @@
 ghost use Rattle.std.specs.Prelude.{◌≡◌, ℕ, ◌<◌, ◌≤◌, length, All, slice_index};
 ghost use Rattle.costs.specs.Cost.{plain, lesser};
-ghost use Rattle.costs.specs.Least.{direct};
-ghost use Rattle.distances.specs.Held.{Costs, unlinked_cost, cost_through, Held};
+ghost use Rattle.costs.specs.Least.{by_links};
+ghost use Rattle.distances.specs.Held.{cost_at, Costs, unlinked_cost, cost_through, Held};
 ghost use Rattle.layout.specs.WellFormed.{LinkFits};
 ghost use Rattle.tables.specs.Accepted.{declared};
 
@@ -20,12 +20,11 @@ fn unlinked() -> [[u32; 32]; 32]
     costs
 }
 
-// The costs over one link at most.
-fn linked(links: &[Link]) -> [[u32; 32]; 32]
+// Lowers the costs to those of the links.
+fn link(costs: &mut [[u32; 32]; 32], links: &[Link])
     requires { All (LinkFits 32) links.now }
-    ensures { Costs 32 (direct plain links.now) result }
+    ensures { Costs 32 (λ a b. by_links plain (cost_at costs.old a b) links.now a b) costs.new }
 {
-    let mut costs = unlinked();
     for link in links {
         let a = link.ends.a as usize;
         let b = link.ends.b as usize;
@@ -33,7 +32,6 @@ fn linked(links: &[Link]) -> [[u32; 32]; 32]
         costs[a][b] = costs[a][b].min(metric);
         costs[b][a] = costs[b][a].min(metric);
     }
-    costs
 }
 
 // Lowers each cost of a row to that of the way that costs `through` and then goes on by `via`, where that is lower.
@@ -63,7 +61,8 @@ fn pass(costs: &mut [[u32; 32]], k: usize)
 pub(crate) fn least(table: &Table) -> [[u32; 32]; 32]
     ensures { Held (declared table.now) result }
 {
-    let mut costs = linked(table.links());
+    let mut costs = unlinked();
+    link(&mut costs, table.links());
     let rows = &mut costs[..table.routers().len()];
     for k in 0..rows.len() {
         pass(rows, k);

@@ -7,7 +7,7 @@ use Rattle.distances.proofs.matrix.least.Goals as goal
 
 pub loop-k-init : goal.loop-k-init
 unfolding over
-loop-k-init c = λ a b la lb. rw (← c.links.ensures.value) (grind (arith, common_steps, c.linked-costs.ensures a b))
+loop-k-init c = λ a b la lb. rw (← c.links.ensures.value) (grind (arith, common_steps, c.link.ensures a b, c.unlinked-costs.ensures a b))
 
 pub loop-k-preserved : goal.loop-k-preserved
 unfolding over
@@ -20,6 +20,6 @@ pub returns : goal.returns
 returns c =
     let t = declared c.args.table.now in
     let rows = c.loop-k.rows in
-    let rest = drop (length c.routers.result.now) c.linked-costs.result in
+    let rest = drop (length c.routers.result.now) c.link.new.costs in
     let all = ap length c.routers.ensures.value in
     held_from t (rows ++ rest) c.args.table.now.sound (λ a b la lb. grind (arith, common_steps, c.loop-k.invariant a b))

@@ -5,7 +5,7 @@ use Rattle.costs.specs.Cost.{plain}
 use Rattle.costs.specs.Least.{by_links}
 use Rattle.distances.specs.Held.{cost_at}
 use Rattle.distances.proofs.Rows.{lowered_both}
-use Rattle.distances.proofs.matrix.linked.Goals as goal
+use Rattle.distances.proofs.matrix.link.Goals as goal
 
 abbrev unread : Link
 unread = record { ends = record { a = 0; b = 0 }; metric = 0 }

@@ -1,9 +1,0 @@
-use Rattle.std.proofs.Common.{◌≡◌, ℕ, ◌<◌, drop}
-use Rattle.costs.specs.Cost.{plain}
-use Rattle.costs.specs.Least.{by_links, direct}
-use Rattle.distances.specs.Held.{cost_at}
-use Rattle.distances.proofs.matrix.linked.Given as goal
-
--- the links that are left take these costs to those of all links
-abbrev pub invariant-loop-link : goal.invariant-loop-link
-invariant-loop-link l = (a b : ℕ) → a < 32 → b < 32 → by_links plain (cost_at l.costs a b) (drop l.link-index l.links) a b ≡ direct plain l.links a b
