@@ -1,9 +1,9 @@
 -- The costs that are held are the distances of the table. Assumes nothing.
-use Rattle.std.proofs.Common.{◌≡◌, ℕ, ◌*◌, ◌<◌, ◌≤◌, List, [], length, get_or, take, All, sym, ◌∙◌, subst, arith}
+use Rattle.std.proofs.Common.{◌≡◌, ℕ, ◌*◌, ◌<◌, ◌≤◌, List, [], length, get_or, take, All, sym, ap, ◌∙◌, subst, arith}
 use mathlib.Core.HLevel.{hedberg}
 use mathlib.Core.Logic.{∥∥₁_elim}
 use native.Mathlib.Decide.{ℕ_discrete}
-use Rattle.std.proofs.lemmas.List.{get_or-take, length-take-le}
+use Rattle.std.proofs.lemmas.List.{get_or-take}
 use Rattle.std.proofs.lemmas.List.FromFn.{fill_by_all}
 use Rattle.std.proofs.lemmas.List.Elements.{All-from_get_or}
 use Rattle.layout.specs.Table.{Declared}
@@ -42,15 +42,12 @@ module _ (d : Distances) where
   held_near a b la lb = omega (arith, held_is a b la lb, plain_near t w a b la lb)
 
   -- a row of distances, and they are near
-  module _ (v m : ℕ) (lv : v < n) (long : m ≤ length (get_or d.costs v [])) (all : m ≡ n) where
-    abbrev row : List ℕ
-    row = take m (get_or d.costs v [])
-
+  module _ (v m : ℕ) (lv : v < n) (row : List ℕ) (is : row ≡ take m (get_or d.costs v [])) (long : length row ≡ m) (all : m ≡ n) where
     row_long : length row ≡ n
-    row_long = length-take-le m (get_or d.costs v []) long ∙ all
+    row_long = long ∙ all
 
     row_at : (b : ℕ) → b < n → get_or row b 0 ≡ cost_at d.costs v b
-    row_at b lb = get_or-take m (get_or d.costs v []) b 0 (omega arith)
+    row_at b lb = ap (λ xs. get_or xs b 0) is ∙ get_or-take m (get_or d.costs v []) b 0 (omega (arith, all))
 
     pub row_is : row ≡ distances_from t v
     row_is = fill_by_all (distance plain t v) row n 0 row_long (λ b lb. row_at b lb ∙ held_is v b lv lb)

@@ -1,9 +1,18 @@
-ghost use Rattle.std.specs.Prelude.{◌≡◌, ◌*◌, ◌≤◌, IfOk, All};
+ghost use Rattle.std.specs.Prelude.{◌≡◌, ◌*◌, ◌≤◌, length, take, IfOk, All};
 ghost use Rattle.distances.specs.Answered.{declared_by, read, of_router, row_answer, between_answer};
 
 use crate::distances::Distances;
 use faults::CallFault;
 use tables::Table;
+
+// The costs of a row to the first `count` routers.
+fn front(row: &[u32; 32], count: usize) -> &[u32]
+    requires { count ≤ 32 }
+    ensures value { result.now ≡ take count row.now }
+    ensures whole { length result.now ≡ count }
+{
+    &row[..count]
+}
 
 impl Distances {
     // The table whose distances these are.
@@ -30,8 +39,7 @@ impl Distances {
         ensures near { IfOk result (λ row. All (λ d. d ≤ 31 * 65535) row.now) }
     {
         let v = self.index_of(router)?;
-        let row = &self.costs[v];
-        Ok(&row[..self.table.routers().len()])
+        Ok(front(&self.costs[v], self.table.routers().len()))
     }
 
     // The distance from one router to another. Of two undeclared ones the lower is refused.

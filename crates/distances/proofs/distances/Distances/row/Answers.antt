@@ -1,5 +1,4 @@
-use Rattle.std.proofs.Common.{◌≡◌, ◌<◌, length, get_or, [], ap, arith, rules}
-use borrow.Author.Rules.{Below-row}
+use Rattle.std.proofs.Common.{◌≡◌, ◌<◌, length, ap, ◌∙◌, arith}
 use Rattle.std.proofs.lemmas.Bool.Decides.{nat_tests}
 use Rattle.distances.specs.Answered.{declared_by, distances_from}
 use Rattle.distances.proofs.HeldCosts.{row_is, row_near}
@@ -14,10 +13,9 @@ returns c =
     let index : v ≡ c.args.router = grind (arith, nat_tests) in
     let lv : v < length t.routers = grind (arith, nat_tests) in
     let all = ap length c.routers.ensures.value in
-    let few = c.routers.ensures.few in
-    let wide : 31 < length (get_or d.costs v []) = search (rules, Below-row) depth 7 in
-    let row = row_is d v _ lv (omega arith) all in
+    let front = c.front.ensures in
+    let row = row_is d v _ lv _ front.value front.whole all in
     let same = ap (distances_from t) index in record {
       value = grind (arith, nat_tests);
-      near = row_near d v _ lv (omega arith) all;
+      near = row_near d v _ lv _ front.value front.whole all;
     }
