@@ -1,9 +1,9 @@
-ghost use Rattle.std.specs.Prelude.{◌≡◌, ◌&&◌, length, map, nat_lt};
-ghost use Rattle.layout.specs.Checks.{clients_of_one};
+ghost use Rattle.std.specs.Prelude.{◌≡◌, ◌&&◌, length, map, OnErr, nat_lt};
+ghost use Rattle.layout.specs.Checks.{declaring, clients_of_one};
 ghost use Rattle.layout.specs.Table.{nothing};
 ghost use Rattle.records.specs.Readings.{kind_in, body_in};
 ghost use Rattle.records.specs.declared.kind.Kind.TheVariants.{Router as router_kind, Link as link_kind, Session as session_kind, Path as path_kind};
-ghost use Rattle.declarations.specs.Held.{declared_in, fitting, joining, Declares};
+ghost use Rattle.declarations.specs.Held.{declared_in, fitting, joining, outcome, Declares};
 
 use crate::declarations::Declarations;
 use crate::numbers::four_bytes;
@@ -150,7 +150,8 @@ impl Declarations {
 
     // One record more, or the first rule that it breaks.
     pub fn declare(&mut self, found: Placed) -> Result<(), TableFault>
-        ensures { Declares (declared_in self.old) found.entry.place (kind_in found.entry.record) (body_in found.entry.record) result (declared_in self.new) }
+        ensures value { outcome result (declared_in self.new) ≡ declaring (declared_in self.old) found.entry.place (kind_in found.entry.record) (body_in found.entry.record) }
+        ensures kept { OnErr result (declared_in self.new ≡ declared_in self.old) }
     {
         match found.record {
             Record::Router(body) => self.router(found.place, body),
