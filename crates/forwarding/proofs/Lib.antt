@@ -1,3 +1,4 @@
 mod Rows
 mod Offers
+mod LowestHop
 mod Traced

@@ -1,64 +1,156 @@
--- The best offer so far is that of the best path so far. Assumes nothing.
-use Rattle.std.proofs.Common.{◌≡◌, ℕ, ◌+◌, ◌<◌, true, false, eqb, List, length, get_or, Some, None, Ok, Option, sym, refl, ap, ◌∙◌, ⊎_elim, add-one, arith}
+-- The least offer is that of the best path. Assumes nothing.
+use Rattle.std.proofs.Common.{◌≡◌, ℕ, zero, suc, ◌<◌, ◌≤◌, Bool, true, false, cond, not, ◌&&◌, ◌||◌, eqb, leb, ltb, List, [], ◌∷◌, ◌++◌, All, map, length, get_or, take, Some, None, Ok, Option, sym, refl, ap, ◌∙◌, subst, ⊎_elim, add-one, arith}
+use Rattle.std.specs.List.{filter, reduce, enumerate_from}
+use Rattle.std.specs.Option.{option_map}
+use Rattle.std.specs.declared.cmp.Ordering.{Ordering}
+use Rattle.std.specs.declared.cmp.Ordering.TheVariants.{Less, Equal, Greater}
+use Rattle.std.specs.Ordering.{is_gt, bool_cmp, nat_cmp, ordering_then, min_by_ordering}
 use Rattle.std.proofs.lemmas.Bool.{cases_Bool, cond-true, cond-false}
+use Rattle.std.proofs.lemmas.Bool.Decides.{nat_tests}
+use Rattle.std.proofs.lemmas.List.{append-nil, map-append, take_more, take_all}
+use Rattle.std.proofs.lemmas.List.Elements.{All-from_get_or, filter-append}
+use Rattle.std.proofs.lemmas.List.FromFn.{length-enumerate_from, get_or-enumerate_from}
+use Rattle.std.proofs.lemmas.List.Sums.{fold_push}
 use Rattle.costs.specs.Cost.{plain}
+use Rattle.costs.proofs.Plain.{plain_laws}
 use Rattle.distances.specs.Answered.{row_answer}
 use Rattle.layout.specs.Table.{Declared, path_at}
 use Rattle.layout.specs.WellFormed.{WellFormed}
 use Rattle.layout.specs.declared.path.ExitPath.{ExitPath}
-use Rattle.packets.specs.Best.{best_below, the_better, takes_first, best}
+use Rattle.packets.specs.Best.{exit_of, speaker_of, metric, best_below, the_better, takes_first, best}
+use Rattle.packets.proofs.Chosen.{Chosen, chosen}
+use Rattle.packets.proofs.Taking.{taking_ranks}
 use Rattle.sets.specs.Members.{member}
-use Rattle.forwarding.specs.Offers.{offer_at, better_offer, offered_at}
-use Rattle.forwarding.specs.declared.offer.Offer.{Offer}
+use Rattle.forwarding.specs.Offers.{offer_of}
+use Rattle.forwarding.specs.declared.best_path.Offer.{Offer}
 use Rattle.forwarding.proofs.Rows.{row_sum}
 
-abbrev offer_of : ExitPath → ℕ → ℕ → ℕ → Offer
-offer_of x v m p = record { own = eqb x.exit_point v; metric = m; speaker = x.speaker; path = p }
+-- the order of offers, and the lesser of two
+abbrev pub offer_cmp : Offer → Offer → Ordering
+offer_cmp x y = ordering_then (bool_cmp x.elsewhere y.elsewhere) (ordering_then (nat_cmp x.metric y.metric) (ordering_then (nat_cmp x.speaker y.speaker) (nat_cmp x.path y.path)))
 
--- a path as it is read is the offer of that path
-pub offer_is : (t : Declared) (w : WellFormed t) (v : ℕ) (row : List ℕ) (xs : List ExitPath) → Ok row ≡ row_answer t v → (paths : xs ≡ t.paths) (p : ℕ) → p < length xs → offer_of (path_at xs p) v (get_or row (path_at xs p).exit_point 0 + (path_at xs p).exit_cost) p ≡ offer_at t v p
-offer_is t w v row xs told paths p lt =
-    ap (λ (m : ℕ). offer_of (path_at xs p) v m p) (row_sum t w v row xs told paths p lt)
-    ∙ ap (λ (ys : List ExitPath). offer_of (path_at ys p) v (offer_at t v p).metric p) paths
+abbrev pub lesser : Offer → Offer → Offer
+lesser x y = min_by_ordering (offer_cmp x y) x y
 
-module _ (t : Declared) (v s : ℕ) where
-  abbrev best_so_far : ℕ → Option ℕ
-  best_so_far p = best_below (takes_first plain t v) (member s) p
+lesser-cond : {A : Type 0} (o : Ordering) (x y : A) → min_by_ordering o x y ≡ cond (is_gt o) y x
+lesser-cond Less x y = refl
+lesser-cond Equal x y = refl
+lesser-cond Greater x y = refl
 
-  -- the offers hold what decides between the paths
-  better_is : (p : ℕ) (o : Option ℕ) → better_offer (offer_at t v p) (offered_at t v o) ≡ offer_at t v (the_better (takes_first plain t v) p o)
-  better_is p None = refl
-  better_is p (Some q) =
-      ⊎_elim
-      (λ wins. cond-true (takes_first plain t v p q) (offer_at t v p) (offer_at t v q) wins ∙ ap (offer_at t v) (sym (cond-true (takes_first plain t v p q) p q wins)))
-      (λ loses. cond-false (takes_first plain t v p q) (offer_at t v p) (offer_at t v q) loses ∙ ap (offer_at t v) (sym (cond-false (takes_first plain t v p q) p q loses)))
+-- the nearer comes first, then the lower speaker, and then the lower number
+nearer_first : (mq mp sq sp q p : ℕ) → q < p → is_gt (ordering_then (nat_cmp mq mp) (ordering_then (nat_cmp sq sp) (nat_cmp q p))) ≡ (not (leb mq mp) || (leb mp mq && ltb sp sq))
+nearer_first mq mp sq sp q p lt = grind (arith, nat_tests)
+
+-- and before all that the router's own exits
+own_first : (own_q own_p near : Bool) (o : Ordering) → is_gt o ≡ near → is_gt (ordering_then (bool_cmp (not own_q) (not own_p)) o) ≡ cond own_p (not own_q || near) (not own_q && near)
+own_first true true near o e = e
+own_first true false near o e = refl
+own_first false true near o e = refl
+own_first false false near o e = e
+
+-- the least of the offers to which one more is added
+after : Option Offer → Offer → Offer
+after None y = y
+after (Some x) y = lesser x y
+
+least_push : (xs : List Offer) (y : Offer) → reduce lesser (xs ++ y ∷ []) ≡ Some (after (reduce lesser xs) y)
+unfolding after
+least_push [] y = refl
+least_push (x ∷ xs) y = ap Some (fold_push lesser x xs y)
+
+-- path x.0 is x.1
+abbrev pub Stands : List ExitPath → ℕ × ExitPath → Type 0
+Stands paths x = (x.0 < length paths) × (x.1 ≡ path_at paths x.0)
+
+-- each path stands at its number
+no_path : ℕ × ExitPath
+no_path = (0, record { exit_point = 0; neighbour_as = 0; local_pref = 0; as_path_len = 0; med = 0; exit_cost = 0; speaker = 0 })
+
+stands_at : (paths : List ExitPath) (p : ℕ) → p < length paths → get_or (enumerate_from 0 paths) p no_path ≡ (p, path_at paths p)
+unfolding no_path
+stands_at paths p lt = get_or-enumerate_from 0 paths p no_path lt ∙ ap (λ (k : ℕ). (k, path_at paths p)) (omega arith)
+
+pub numbered : (paths : List ExitPath) → All (Stands paths) (enumerate_from 0 paths)
+numbered paths =
+    All-from_get_or (Stands paths) (enumerate_from 0 paths) no_path
+    (λ k lt. let here : k < length paths = omega (arith, lt, length-enumerate_from 0 paths) in subst (Stands paths) (sym (stands_at paths k here)) (here, refl))
+
+module _ (t : Declared) (v : ℕ) where
+  -- path p at router v
+  offer_at : ℕ → Offer
+  offer_at p = record { elsewhere = not (eqb (exit_of t p) v); metric = metric plain t v p; speaker = speaker_of t p; path = p }
+
+  -- of two offers the lesser is that of the path that is taken
+  taken_first : (p q : ℕ) → q < p → lesser (offer_at q) (offer_at p) ≡ offer_at (cond (takes_first plain t v p q) p q)
+  unfolding offer_at
+  taken_first p q lt =
+      lesser-cond (offer_cmp (offer_at q) (offer_at p)) (offer_at q) (offer_at p)
+      ∙ ap (λ (b : Bool). cond b (offer_at p) (offer_at q)) (own_first (eqb (exit_of t q) v) (eqb (exit_of t p) v) _ _ (nearer_first (metric plain t v q) (metric plain t v p) (speaker_of t q) (speaker_of t p) q p lt))
+      ∙ ⊎_elim
+      (λ h. cond-true _ _ _ h ∙ ap offer_at (sym (cond-true _ _ _ h)))
+      (λ h. cond-false _ _ _ h ∙ ap offer_at (sym (cond-false _ _ _ h)))
       (cases_Bool (takes_first plain t v p q))
 
-  pub best_with : (p : ℕ) (x : Offer) (o : Option Offer) → member s p ≡ true → x ≡ offer_at t v p → o ≡ offered_at t v (best_so_far p) → Some (better_offer x o) ≡ offered_at t v (best_so_far (p + 1))
-  unfolding best_below
-  best_with p x o held x_is o_is =
-      ap (λ (y : Offer). Some (better_offer y o)) x_is ∙ ap (λ (q : Option Offer). Some (better_offer (offer_at t v p) q)) o_is ∙ ap Some (better_is p (best_so_far p))
-      ∙ ap (offered_at t v) (sym (ap best_so_far (add-one p) ∙ cond-true (member s p) _ _ held))
+  module _ (s : ℕ) where
+    best_so_far : ℕ → Option ℕ
+    best_so_far p = best_below (takes_first plain t v) (member s) p
 
-  pub best_without : (p : ℕ) (o : Option Offer) → member s p ≡ false → o ≡ offered_at t v (best_so_far p) → o ≡ offered_at t v (best_so_far (p + 1))
-  unfolding best_below
-  best_without p o out o_is = o_is ∙ ap (offered_at t v) (sym (ap best_so_far (add-one p) ∙ cond-false (member s p) _ _ out))
+    one_more : (p : ℕ) (o : Option ℕ) → Chosen (takes_first plain t v) (member s) p o → after (option_map offer_at o) (offer_at p) ≡ offer_at (the_better (takes_first plain t v) p o)
+    unfolding after
+    one_more p None h = refl
+    one_more p (Some q) h = taken_first p q h.0
 
-  pub best_begins : None ≡ offered_at t v (best_so_far 0)
-  unfolding best_below
-  best_begins = refl
+    -- where path p is asked about, and where not
+    either_way : (asked : Bool) (p : ℕ) (x : Offer) (o : Option Offer) (q : Option ℕ) → x ≡ offer_at p → o ≡ option_map offer_at q → Chosen (takes_first plain t v) (member s) p q → cond asked (Some (after o x)) o ≡ option_map offer_at (cond asked (Some (the_better (takes_first plain t v) p q)) q)
+    either_way true p x o q x_is o_is h = ap Some (ap (after o) x_is ∙ ap (λ (y : Option Offer). after y (offer_at p)) o_is ∙ one_more p q h)
+    either_way false p x o q x_is o_is h = o_is
 
-  path_of : (x : Offer) (o : Option ℕ) → Some x ≡ offered_at t v o → Some x.path ≡ o
-  path_of x None e = let never : ◌≡◌ {A = ℕ} 0 1 = cc in absurd (omega arith)
-  path_of x (Some p) e = let same : x ≡ offer_at t v p = cc in ap (λ (y : Offer). Some y.path) same
+    module _ (w : WellFormed t) (row : List ℕ) (told : Ok row ≡ row_answer t v) where
+      abbrev numbers : List (ℕ × ExitPath)
+      numbers = enumerate_from 0 t.paths
 
-  no_path : (o : Option ℕ) → None ≡ offered_at t v o → None ≡ o
-  no_path None e = refl
-  no_path (Some p) e = let never : ◌≡◌ {A = ℕ} 0 1 = cc in absurd (omega arith)
+      abbrev asked : ℕ × ExitPath → Bool
+      asked x = member s x.0
 
-  module _ (p : ℕ) (all : p ≡ length t.paths) where
-    pub best_some : (x : Offer) → Some x ≡ offered_at t v (best_so_far p) → Some x.path ≡ best plain t s v
-    best_some x e = path_of x (best_so_far p) e ∙ ap best_so_far all
+      abbrev read : ℕ × ExitPath → Offer
+      read x = offer_of v row x.0 x.1
 
-    pub best_none : None ≡ offered_at t v (best_so_far p) → None ≡ best plain t s v
-    best_none e = no_path (best_so_far p) e ∙ ap best_so_far all
+      abbrev least_of : List (ℕ × ExitPath) → Option Offer
+      least_of xs = reduce lesser (map read (filter asked xs))
+
+      -- the paths so far, and then path x
+      least_more : (xs : List (ℕ × ExitPath)) (x : ℕ × ExitPath) → least_of (xs ++ x ∷ []) ≡ cond (asked x) (Some (after (least_of xs) (read x))) (least_of xs)
+      least_more xs x =
+          ap (λ (ys : List (ℕ × ExitPath)). reduce lesser (map read ys)) (filter-append asked xs (x ∷ []))
+          ∙ ap (reduce lesser) (map-append read (filter asked xs) (filter asked (x ∷ [])))
+          ∙ elim (asked x) as (λ b. reduce lesser (map read (filter asked xs) ++ map read (cond b (x ∷ []) [])) ≡ cond b (Some (after (least_of xs) (read x))) (least_of xs)) [
+            | true ↦ least_push _ _
+            | false ↦ ap (reduce lesser) (append-nil _)
+          ]
+
+      offer_is : (p : ℕ) → p < length t.paths → read (p, path_at t.paths p) ≡ offer_at p
+      unfolding offer_at
+      offer_is p lt = ap (λ (m : ℕ). record { elsewhere = not (eqb (exit_of t p) v); metric = m; speaker = speaker_of t p; path = p }) (row_sum t w v row told p lt)
+
+      least_first : (p : ℕ) → p ≤ length t.paths → least_of (take p numbers) ≡ option_map offer_at (best_so_far p)
+      unfolding best_below best_so_far
+      least_first zero le = refl
+      least_first (suc p) le =
+          let lt : p < length t.paths = omega (arith, le) in
+          ap (λ (k : ℕ). least_of (take k numbers)) (sym (add-one p))
+          ∙ ap least_of (take_more numbers p no_path (omega (arith, lt, length-enumerate_from 0 t.paths)) ∙ ap (λ (x : ℕ × ExitPath). take p numbers ++ x ∷ []) (stands_at t.paths p lt))
+          ∙ least_more (take p numbers) (p, path_at t.paths p)
+          ∙ either_way (member s p) p _ _ _ (offer_is p lt) (least_first p (omega (arith, le))) (chosen (takes_first plain t v) (member s) (taking_ranks plain plain_laws t v) p)
+
+      -- the least offer of all is that of the best path
+      least_is : least_of numbers ≡ option_map offer_at (best plain t s v)
+      unfolding best_so_far
+      least_is = ap least_of (sym (take_all (length t.paths) numbers (omega (arith, length-enumerate_from 0 t.paths)))) ∙ least_first (length t.paths) (omega arith)
+
+      path_back : (o : Option ℕ) → option_map (λ (x : Offer). x.path) (option_map offer_at o) ≡ o
+      unfolding offer_at
+      path_back None = refl
+      path_back (Some p) = refl
+
+      pub path_is : (o : Option Offer) → o ≡ least_of numbers → option_map (λ (x : Offer). x.path) o ≡ best plain t s v
+      path_is o e = ap (option_map (λ (x : Offer). x.path)) (e ∙ least_is) ∙ path_back (best plain t s v)

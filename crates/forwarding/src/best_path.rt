@@ -1,13 +1,41 @@
-ghost use Rattle.std.specs.Prelude.{◌≡◌, ◌*◌, ◌≤◌, IfOk};
+ghost use Rattle.std.specs.Prelude.{◌≡◌, ◌+◌, ◌*◌, ◌^◌, ◌<◌, ◌≤◌, length, IfOk, slice_index};
 ghost use Rattle.costs.specs.Cost.{plain};
 ghost use Rattle.distances.specs.Answered.{declared_by};
 ghost use Rattle.forwarding.specs.Answers.{best_answer, metric_answer};
+ghost use Rattle.forwarding.specs.Offers.{offer_of};
 ghost use Rattle.packets.specs.BestPlain.{BestIs};
 
-use crate::offer::Offer;
 use distances::Distances;
 use faults::CallFault;
+use layout::ExitPath;
 use sets::PathSet;
+
+// What decides between paths at a router, in this order: the router's own exits come first, then the nearer,
+// then the lower speaker, then the lower number.
+#[derive(Clone, Copy, PartialEq, Eq, PartialOrd, Ord)]
+struct Offer {
+    elsewhere: bool,
+    metric: u32,
+    speaker: u32,
+    path: u8,
+}
+
+impl Offer {
+    // Path `p` at a router, by the distances from that router.
+    fn new(router: u32, row: &[u32], p: usize, path: ExitPath) -> Self
+        requires numbered { p < 64 }
+        requires in_row { path.exit_point < length row.now }
+        requires near { slice_index row.now path.exit_point + path.exit_cost < 2 ^ 32 }
+        ensures { result ≡ offer_of router row.now p path }
+    {
+        Offer {
+            elsewhere: path.exit_point as u32 != router,
+            metric: row[path.exit_point as usize] + path.exit_cost as u32,
+            speaker: path.speaker,
+            path: p as u8,
+        }
+    }
+}
 
 // The best path of a router of a set: if some of the set leave at the router itself only those count; the
 // least metric wins, then the lowest speaker, then the lowest number. None where no path of the set is
@@ -18,22 +46,12 @@ pub fn best(distances: &Distances, router: u32, set: PathSet) -> Result<Option<u
 {
     let row = distances.row(router)?;
     let paths = distances.table().paths();
-    let mut best: Option<Offer> = None;
-    for (p, path) in paths.iter().enumerate() {
-        if set.contains(p as u32) {
-            let offer = Offer {
-                own: path.exit_point as u32 == router,
-                metric: row[path.exit_point as usize] + path.exit_cost as u32,
-                speaker: path.speaker,
-                path: p as u8,
-            };
-            best = Some(offer.or_better(best));
-        }
-    }
-    match best {
-        Some(offer) => Ok(Some(offer.path)),
-        None => Ok(None),
-    }
+    let offers = paths
+        .iter()
+        .enumerate()
+        .filter(|(p, _)| set.contains(*p as u32))
+        .map(|(p, path)| Offer::new(router, row, p, *path));
+    Ok(offers.min().map(|offer| offer.path))
 }
 
 // The metric of a path at a router: the distance to its exit point and then its exit cost.
@@ -42,10 +60,9 @@ pub fn metric(distances: &Distances, router: u32, path: u32) -> Result<u32, Call
     ensures near { IfOk result (λ m. m ≤ 32 * 65535) }
 {
     let paths = distances.table().paths();
-    if path as usize >= paths.len() {
-        return Err(CallFault::UndeclaredPath(path));
-    }
+    let exit = paths
+        .get(path as usize)
+        .ok_or(CallFault::UndeclaredPath(path))?;
     let row = distances.row(router)?;
-    let exit = paths[path as usize];
     Ok(row[exit.exit_point as usize] + exit.exit_cost as u32)
 }

@@ -3,7 +3,7 @@ ghost use Rattle.costs.specs.Cost.{plain};
 ghost use Rattle.costs.specs.Least.{distance};
 ghost use Rattle.distances.specs.Answered.{declared_by};
 ghost use Rattle.forwarding.specs.Answers.{hop_answer};
-ghost use Rattle.packets.specs.Hops.{other_end, lead_along, the_lower, HopIs};
+ghost use Rattle.packets.specs.Hops.{other_end, lead_along, HopIs};
 
 use costs::join;
 use distances::Distances;
@@ -32,21 +32,8 @@ fn along(distances: &Distances, link: Link, from: u32, towards: u32, whole: u32)
     ensures { result ≡ lead_along plain (declared_by distances.now) from towards link }
 {
     let next = other_end(link.ends, from)?;
-    match distances.between(next as u32, towards) {
-        Ok(rest) if join(link.metric as u32, rest) == whole => Some(next),
-        _ => None,
-    }
-}
-
-// The lower of two routers, where there are two.
-fn lower(a: Option<u8>, b: Option<u8>) -> Option<u8>
-    ensures { result ≡ the_lower a b }
-{
-    match (a, b) {
-        (Some(x), Some(y)) => Some(x.min(y)),
-        (Some(x), None) => Some(x),
-        (None, rest) => rest,
-    }
+    let rest = distances.between(next as u32, towards).ok()?;
+    (join(link.metric as u32, rest) == whole).then_some(next)
 }
 
 // The next hop from one router towards another: the lowest-numbered router that a link joins to the first,
@@ -56,9 +43,9 @@ pub fn next_hop(distances: &Distances, from: u32, towards: u32) -> Result<Option
     ensures plain { IfOk result (HopIs plain (declared_by distances.now) from towards) }
 {
     let whole = distances.between(from, towards)?;
-    let mut lowest: Option<u8> = None;
-    for link in distances.table().links() {
-        lowest = lower(along(distances, *link, from, towards, whole), lowest);
-    }
-    Ok(lowest)
+    let links = distances.table().links();
+    let leading = links
+        .iter()
+        .filter_map(|link| along(distances, *link, from, towards, whole));
+    Ok(leading.min())
 }

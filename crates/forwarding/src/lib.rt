@@ -3,7 +3,6 @@
 
 mod best_path;
 mod hops;
-mod offer;
 mod packet;
 
 pub use best_path::{best, metric};

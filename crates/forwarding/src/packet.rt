@@ -2,8 +2,6 @@ ghost use Rattle.std.specs.Prelude.{◌≡◌, ◌<◌, ◌≤◌, length};
 ghost use Rattle.costs.specs.Cost.{plain};
 ghost use Rattle.distances.specs.Answered.{declared_by};
 ghost use Rattle.forwarding.specs.Answers.{told, over_written, trace_answer, trace_bytes};
-ghost use Rattle.packets.specs.Best.{best as best_path};
-ghost use Rattle.packets.specs.Hops.{hop};
 ghost use Rattle.packets.specs.Ways.{way};
 ghost use Rattle.packets.specs.WaysPlain.{AlwaysLeaves, LeavesFrom};
 
@@ -17,58 +15,47 @@ use sets::PathSet;
 const MOST_MET: usize = 32;
 
 // The way of a packet: how many routers it meets, first and last included, and the path by which it leaves.
-#[derive(Clone, Copy)]
+#[derive(Clone, Copy, PartialEq, Eq, Debug)]
 pub struct Way {
     pub count: usize,
     pub path: u8,
 }
 
-// The path that a declared router takes.
-fn path_at(distances: &Distances, router: u8, set: PathSet) -> Option<u8>
-    requires { router < length (declared_by distances.now).routers }
-    ensures { result ≡ best_path plain (declared_by distances.now) set.0 router }
-{
-    match best(distances, router as u32, set) {
-        Ok(path) => path,
-        Err(_) => None,
-    }
-}
-
-// Where a declared router sends a packet that is to leave at another.
-fn hop_at(distances: &Distances, router: u8, exit_point: u8) -> Option<u8>
-    requires from { router < length (declared_by distances.now).routers }
-    requires towards { exit_point < length (declared_by distances.now).routers }
-    ensures { result ≡ hop plain (declared_by distances.now) router exit_point }
-{
-    match next_hop(distances, router as u32, exit_point as u32) {
-        Ok(next) => next,
-        Err(_) => None,
-    }
-}
-
-// Follows a packet from a declared router, and writes the routers that it meets.
-fn follow(distances: &Distances, router: u8, set: PathSet, met: &mut [u8]) -> Option<Way>
+// Follows a packet from a declared router, and writes the routers that it meets. The distances and the set come
+// as `best` and `trace` take them: a struct of the two would be made for this one call.
+fn follow(
+    distances: &Distances,
+    router: u8,
+    set: PathSet,
+    met: &mut [u8],
+) -> Result<Option<Way>, CallFault>
     requires declared { router < length (declared_by distances.now).routers }
     requires room { 32 ≤ length met.old }
-    ensures value { result ≡ told (way plain (declared_by distances.now) set.0 router) }
+    ensures value { result ≡ Ok (told (way plain (declared_by distances.now) set.0 router)) }
     ensures bytes { met.new ≡ over_written (way plain (declared_by distances.now) set.0 router) met.old }
 {
     let paths = distances.table().paths();
     let mut at = router;
-    let mut count = 0;
-    while let Some(path) = path_at(distances, at, set) {
-        met[count] = at;
-        count += 1;
+    for (before, place) in met.iter_mut().enumerate() {
+        let Some(path) = best(distances, at as u32, set)? else {
+            return Ok(None);
+        };
+        *place = at;
         let exit_point = paths[path as usize].exit_point;
         if exit_point == at {
-            return Some(Way { count, path });
+            return Ok(Some(Way {
+                count: before + 1,
+                path,
+            }));
         }
-        let Some(next) = hop_at(distances, at, exit_point) else {
-            break;
+        // There always is one, from a router towards another.
+        let Some(next) = next_hop(distances, at as u32, exit_point as u32)? else {
+            return Ok(None);
         };
         at = next;
     }
-    None
+    // No packet meets as many routers as there is room for and goes on.
+    Ok(None)
 }
 
 // The way of a packet from a router, where every router takes its best path of the set: the routers that it
@@ -91,5 +78,5 @@ pub fn trace(
     if met.len() < MOST_MET {
         return Err(CallFault::ShortBuffer(MOST_MET));
     }
-    Ok(follow(distances, router as u8, set, met))
+    follow(distances, router as u8, set, met)
 }
