@@ -1,5 +1,5 @@
 -- A packet that is followed, where there may be no path at all. Assumes nothing.
-use Rattle.std.proofs.Common.{◌≡◌, ℕ, ◌+◌, ◌<◌, ◌≤◌, List, length, set, Some, None, Ok, Err, Option, sym, refl, ap, ◌∙◌, subst, arith}
+use Rattle.std.proofs.Common.{◌≡◌, ℕ, ◌+◌, ◌<◌, ◌≤◌, List, ◌∷◌, length, length-append, set, Some, None, Ok, Err, Option, sym, refl, ap, ◌∙◌, subst, arith}
 use Rattle.std.proofs.lemmas.List.Elements.{All-get_or}
 use Rattle.costs.specs.Cost.{plain}
 use Rattle.costs.proofs.Plain.{plain_laws}
@@ -51,6 +51,12 @@ module _ {t : Declared} {s v : ℕ} {before : List ℕ} (set_up : Setting t s v 
   pub traced_below : {at count : ℕ} {now : List ℕ} → Traced t s v before at count now → at < length t.routers
   traced_below (nowhere none at_first first same) = subst (λ x. x < length t.routers) (sym at_first) set_up.declared
   traced_below (going q offered tracing) = tracing.below
+
+  -- no packet is followed past the end of the buffer
+  pub traced_within : {at count : ℕ} {now : List ℕ} → Traced t s v before at count now → count < length before
+  traced_within (nowhere none at_first first same) = omega (arith, first, set_up.room)
+  traced_within {at} (going q offered tracing) =
+      omega (arith, tracing.counted, tracing.short, enough, length-append tracing.done (at ∷ tracing.rest))
 
   -- without a path the buffer is as it was
   pub traced_none : {at count : ℕ} {now : List ℕ} {o : Option ℕ} → Traced t s v before at count now → Ok o ≡ best_answer t s at → o ≡ None → (None ≡ told (way plain t s v)) × (now ≡ over_written (way plain t s v) before)

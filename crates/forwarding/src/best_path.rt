@@ -41,8 +41,8 @@ impl Offer {
 // least metric wins, then the lowest speaker, then the lowest number. None where no path of the set is
 // declared.
 pub fn best(distances: &Distances, router: u32, set: PathSet) -> Result<Option<u8>, CallFault>
-    ensures value { result ≡ best_answer (declared_by distances.now) set.0 router }
-    ensures plain { IfOk result (BestIs plain (declared_by distances.now) set.0 router) }
+    ensures value { result ≡ best_answer (declared_by distances.now) set router }
+    ensures plain { IfOk result (BestIs plain (declared_by distances.now) set router) }
 {
     let row = distances.row(router)?;
     let paths = distances.table().paths();

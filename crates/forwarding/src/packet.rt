@@ -31,8 +31,8 @@ fn follow(
 ) -> Result<Option<Way>, CallFault>
     requires declared { router < length (declared_by distances.now).routers }
     requires room { 32 ≤ length met.old }
-    ensures value { result ≡ Ok (told (way plain (declared_by distances.now) set.0 router)) }
-    ensures bytes { met.new ≡ over_written (way plain (declared_by distances.now) set.0 router) met.old }
+    ensures value { result ≡ Ok (told (way plain (declared_by distances.now) set router)) }
+    ensures bytes { met.new ≡ over_written (way plain (declared_by distances.now) set router) met.old }
 {
     let paths = distances.table().paths();
     let mut at = router;
@@ -67,10 +67,10 @@ pub fn trace(
     set: PathSet,
     met: &mut [u8],
 ) -> Result<Option<Way>, CallFault>
-    ensures value { result ≡ trace_answer (declared_by distances.now) set.0 router (length met.old) }
-    ensures bytes { met.new ≡ trace_bytes (declared_by distances.now) set.0 router met.old }
-    ensures leaves { router < length (declared_by distances.now).routers → LeavesFrom plain (declared_by distances.now) set.0 router }
-    ensures however { AlwaysLeaves plain (declared_by distances.now) set.0 }
+    ensures value { result ≡ trace_answer (declared_by distances.now) set router (length met.old) }
+    ensures bytes { met.new ≡ trace_bytes (declared_by distances.now) set router met.old }
+    ensures leaves { router < length (declared_by distances.now).routers → LeavesFrom plain (declared_by distances.now) set router }
+    ensures however { AlwaysLeaves plain (declared_by distances.now) set }
 {
     if router as usize >= distances.table().routers().len() {
         return Err(CallFault::UndeclaredRouter(router));

@@ -26,7 +26,7 @@ min-requires-clause-can c =
     let t = declared_by c.args.distances.now in
     let w = known_well_formed t c.args.distances.now.table.sound in
     let v = c.args.router in
-    let s = c.args.set.0 in
+    let s = c.args.set in
     let row = c.in_ok-row.row.now in
     let told : Ok row ≡ row_answer t v = c.in_ok-row.ensures.value in
     let stands : All (Stands t.paths) (enumerate_from 0 t.paths) = numbered t.paths in
@@ -57,7 +57,7 @@ returns c =
     let t = declared_by c.args.distances.now in
     let w = known_well_formed t c.args.distances.now.table.sound in
     let v = c.args.router in
-    let s = c.args.set.0 in
+    let s = c.args.set in
     let path : c.map.result ≡ option_map (λ (x : Offer). x.path) c.min.result = search rules in
     let is : c.map.result ≡ best plain t s v = path ∙ path_is t v s w _ c.in_ok-row.ensures.value c.min.result
     (reduce_from_yields_List lesser c.map-offers.result c.min.result c.min.ensures.ran

@@ -1,7 +1,7 @@
-use Rattle.std.proofs.Common.{◌≡◌, ◌+◌, set, Some, None, Ok, sym, ap, ◌∙◌, subst}
+use Rattle.std.proofs.Common.{◌≡◌, ◌+◌, set, Some, None, Ok, sym, ap, ◌∙◌, subst, arith}
 use Rattle.std.proofs.lemmas.List.{set-get_or}
 use Rattle.distances.specs.Answered.{declared_by}
-use Rattle.forwarding.proofs.Traced.{Traced, setting, exit_read, traced_begins, traced_out, traced_on, traced_none, hop_not_refused}
+use Rattle.forwarding.proofs.Traced.{Traced, setting, exit_read, traced_begins, traced_out, traced_on, traced_none, traced_within, hop_not_refused}
 use Rattle.forwarding.proofs.packet.follow.Goals as goal
 
 pub loop-before-init : goal.loop-before-init
@@ -36,4 +36,8 @@ loop-before-preserved c =
     let on = traced_on (setting c.args.distances.now c.requires.declared c.requires.room) c.loop-before.at c.in_ok-path.ensures.value c.in-Some.is c.loop-before.invariant exit c.if-exit_point-at.false c.in_ok-next.ensures.value in
     let some : Some on.0 ≡ Some c.in-Some-2.next = sym on.1 ∙ c.in-Some-2.is in
     let next : on.0 ≡ c.in-Some-2.next = cc in
-    subst (λ x. Traced (declared_by c.args.distances.now) c.args.set.0 c.args.router c.args.met.now x (c.loop-before.before + 1) (set c.loop-before.met c.loop-before.before c.loop-before.at)) next on.2
+    subst (λ x. Traced (declared_by c.args.distances.now) c.args.set c.args.router c.args.met.now x (c.loop-before.before + 1) (set c.loop-before.met c.loop-before.before c.loop-before.at)) next on.2
+
+pub returns : goal.returns
+returns c =
+    absurd (omega (arith, traced_within (setting c.args.distances.now c.requires.declared c.requires.room) c.loop-before.invariant, c.loop-before-test.false, c.loop-before.auto.met))
