@@ -5,6 +5,7 @@ use std::fmt;
 use std::marker::Model;
 
 // At most `N` values in order, the first `len` of the array; what lies past them is of no account.
+// An array with a length beside it, since the library uses no heap.
 #[derive(Drop)]
 pub struct ArrayVec<T: Copy, const N: usize> {
     items: [T; N],

@@ -21,7 +21,7 @@ fn worked_cases() -> usize
     8
 }
 
-// The value of a hexadecimal digit.
+// The value of a hexadecimal digit in upper case; `to_digit` would take lower case too.
 fn digit(b: u8) -> Option<u8> {
     match b {
         b'0'..=b'9' => Some(b - b'0'),

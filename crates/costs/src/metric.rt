@@ -1,7 +1,8 @@
 ghost use Rattle.std.specs.Prelude.{◌≡◌};
 ghost use Rattle.costs.specs.Cost.{CostLaws, plain};
 
-// The metric of a router to which there is no way, or none that 32 bits can tell.
+// The metric of a router to which there is no way, or none that 32 bits can tell. A number and no `None`, since the
+// laws of a cost want it in the order, as the largest, and joined as any other.
 pub const UNREACHED: u32 = u32::MAX;
 
 // The metric of one way and then another.

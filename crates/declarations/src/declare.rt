@@ -52,13 +52,10 @@ impl Declarations {
         ensures { result ≡ clients_of_one (declared_in self.now).routers pair }
     {
         let routers = self.routers.as_slice();
-        let a = pair.a as usize;
-        let b = pair.b as usize;
-        if a >= routers.len() || b >= routers.len() {
+        let ends = (routers.get(pair.a as usize), routers.get(pair.b as usize));
+        let (Some(one), Some(other)) = ends else {
             return false;
-        }
-        let one = routers[a];
-        let other = routers[b];
+        };
         one.role.is_client() && other.role.is_client() && one.cluster == other.cluster
     }
 
@@ -81,6 +78,7 @@ impl Declarations {
         Ok(())
     }
 
+    // A method for each kind. The place and the body come apart: the body's type says how long it is, and differs.
     fn router(&mut self, place: usize, body: &[u8; 2]) -> Result<(), TableFault>
         ensures { Declares (declared_in self.old) place router_kind body.now result (declared_in self.new) }
     {
@@ -90,8 +88,9 @@ impl Declarations {
             return Err(TableFault::OutOfRange(place));
         }
         let role = Role::try_from(body[1]).map_err(|_| TableFault::OutOfRange(place))?;
-        let _ = self.routers.try_push(Router { cluster, role });
-        Ok(())
+        self.routers
+            .try_push(Router { cluster, role })
+            .map_err(|_| TableFault::TooMany(place))
     }
 
     fn link(&mut self, place: usize, body: &[u8; 4]) -> Result<(), TableFault>
@@ -107,8 +106,9 @@ impl Declarations {
             return Err(TableFault::OutOfRange(place));
         }
         self.check_ends(place, ends, self.links.as_slice())?;
-        let _ = self.links.try_push(Link { ends, metric });
-        Ok(())
+        self.links
+            .try_push(Link { ends, metric })
+            .map_err(|_| TableFault::TooMany(place))
     }
 
     fn session(&mut self, place: usize, body: &[u8; 2]) -> Result<(), TableFault>
@@ -123,8 +123,9 @@ impl Declarations {
         if !self.clients_of_one(ends) {
             return Err(TableFault::BadSession(place));
         }
-        let _ = self.sessions.try_push(Session { ends });
-        Ok(())
+        self.sessions
+            .try_push(Session { ends })
+            .map_err(|_| TableFault::TooMany(place))
     }
 
     fn path(&mut self, place: usize, body: &[u8; 20]) -> Result<(), TableFault>
@@ -136,7 +137,7 @@ impl Declarations {
         if exit_point as usize >= self.routers.len() || as_path_len == 0 {
             return Err(TableFault::OutOfRange(place));
         }
-        let _ = self.paths.try_push(ExitPath {
+        let path = ExitPath {
             exit_point,
             neighbour_as: four_bytes(body, 1),
             local_pref: four_bytes(body, 5),
@@ -144,8 +145,10 @@ impl Declarations {
             med: four_bytes(body, 10),
             exit_cost: u16::from_be_bytes([body[14], body[15]]),
             speaker: four_bytes(body, 16),
-        });
-        Ok(())
+        };
+        self.paths
+            .try_push(path)
+            .map_err(|_| TableFault::TooMany(place))
     }
 
     // One record more, or the first rule that it breaks.

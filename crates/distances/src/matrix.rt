@@ -64,6 +64,7 @@ pub(crate) fn least(table: &Table) -> [[u32; 32]; 32]
     let mut costs = unlinked();
     link(&mut costs, table.links());
     let rows = &mut costs[..table.routers().len()];
+    // `k` is the number of a router, which the pass is told.
     for k in 0..rows.len() {
         pass(rows, k);
     }

@@ -10,8 +10,8 @@ use Rattle.costs.proofs.Plain.{plain_laws}
 use Rattle.layout.specs.Table.{Declared}
 use Rattle.layout.specs.WellFormed.{WellFormed}
 use Rattle.layout.specs.declared.link.Link.{Link}
-use Rattle.packets.specs.Hops.{hop, lead_along, the_lower}
-use Rattle.packets.proofs.HopLoops.{Over, over_none, over_more, over_all}
+use Rattle.packets.specs.Hops.{hop, lead_along}
+use Rattle.packets.proofs.HopLoops.{the_lower, Over, over_none, over_more, over_all}
 
 -- the lowest of a list to which one more is added, if there is one
 lowest_push : (xs : List ℕ) (o : Option ℕ) → reduce min (xs ++ cons_option o []) ≡ the_lower o (reduce min xs)

@@ -14,7 +14,8 @@ use sets::PathSet;
 // The most routers that a packet can meet.
 const MOST_MET: usize = 32;
 
-// The way of a packet: how many routers it meets, first and last included, and the path by which it leaves.
+// The way of a packet: how many routers it meets, first and last included, and the path by which it leaves. The routers
+// themselves go into the caller's buffer.
 #[derive(Clone, Copy, PartialEq, Eq, Debug)]
 pub struct Way {
     pub count: usize,

@@ -8,8 +8,14 @@ use Rattle.costs.proofs.Distances.{joins_true, same_from_joins}
 use Rattle.layout.specs.Table.{Declared}
 use Rattle.layout.specs.WellFormed.{Same, LinkFits}
 use Rattle.layout.specs.declared.link.Link.{Link}
-use Rattle.packets.specs.Hops.{level, leads, some_leads, hop, other_end, the_lower, led_to, lead_along}
+use Rattle.packets.specs.Hops.{level, leads, some_leads, hop, other_end, led_to, lead_along}
 use Rattle.packets.proofs.NextHops.{Found, decides_towards, linked_below, same_found}
+
+-- the lower of two, where there are two
+abbrev pub the_lower : Option ℕ → Option ℕ → Option ℕ
+the_lower None o = o
+the_lower (Some x) None = Some x
+the_lower (Some x) (Some y) = Some (min x y)
 
 -- the other end of a pair is the one router that the pair joins to v
 other_joins : (l : Link) (v w : ℕ) → other_end l.ends v ≡ Some w → joins l v w ≡ true

@@ -1,5 +1,5 @@
 -- The next hop of a packet towards a router. Assumes nothing.
-use Rattle.std.specs.Prelude.{◌≡◌, ℕ, min, Bool, cond, ◌&&◌, List, length, Some, None, Contains, Option, ◌==◌}
+use Rattle.std.specs.Prelude.{◌≡◌, ℕ, Bool, cond, ◌&&◌, List, length, Some, None, Contains, Option, ◌==◌}
 use Rattle.std.specs.List.{list_any, position, range_with_len}
 use Rattle.costs.specs.Cost.{Cost}
 use Rattle.costs.specs.Least.{joins, distance}
@@ -12,12 +12,6 @@ use Rattle.layout.specs.declared.link.Pair.{Pair}
 -- the router that a pair joins to v
 abbrev pub other_end : Pair → ℕ → Option ℕ
 other_end p v = cond (p.a == v) (Some p.b) (cond (p.b == v) (Some p.a) None)
-
--- the lower of two, where there are two
-abbrev pub the_lower : Option ℕ → Option ℕ → Option ℕ
-the_lower None o = o
-the_lower (Some x) None = Some x
-the_lower (Some x) (Some y) = Some (min x y)
 
 module _ {C : Type 0} (cost : Cost C) where
   -- whether two costs are the same

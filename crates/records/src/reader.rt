@@ -38,7 +38,8 @@ impl<'a> Reader<'a> {
         }
     }
 
-    // The next record, nothing at the end of the bytes, or why what stands there is no record.
+    // The next record, nothing at the end of the bytes, or why what stands there is no record. No `Iterator`, which would
+    // have to end: where there is no record, this answers the same fault each time.
     pub fn next(&mut self) -> Result<Option<Placed<'a>>, RecordFault>
         ensures answer { answered result ≡ reading (standing self.old) }
         ensures stands { standing self.new ≡ passing (standing self.old) (answered result) }

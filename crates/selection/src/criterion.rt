@@ -3,7 +3,7 @@ ghost use Rattle.selection.specs.Ranks.{compared, rank};
 
 use layout::ExitPath;
 
-// By what one path is better than another.
+// By what one path is better than another. An enum and no closure: the definitions, the laws and the theorems name it.
 #[derive(Clone, Copy, Debug, PartialEq, Eq)]
 pub enum Criterion {
     HighestPreference,

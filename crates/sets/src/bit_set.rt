@@ -150,6 +150,9 @@ impl<const WIDTH: u32> BitSet<WIDTH> {
     }
 }
 
+// Each kind of set comes from the number of its own width and goes back to it, so that neither can fail: an impl for
+// each width.
+
 // The set whose members are the bits that are 1.
 impl From<u64> for PathSet {
     ghost from_gives = { λ bits set. set ≡ bits };

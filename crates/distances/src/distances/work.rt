@@ -8,7 +8,7 @@ use crate::matrix::least;
 use tables::Table;
 
 impl Distances {
-    // The distances between the routers of a table.
+    // The distances between the routers of a table, worked out; a `From` would look as if the table only changed its form.
     pub fn of(table: Table) -> Distances
         ensures same { declared_by result ≡ declared table }
         ensures least { Held (declared table) result.costs }

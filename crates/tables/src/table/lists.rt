@@ -4,6 +4,7 @@ ghost use Rattle.tables.specs.Accepted.{declared};
 use crate::table::Table;
 use layout::{ExitPath, Link, Router, Session};
 
+// A method for each list, with that list's own bound: one for all would be told which list, and be no shorter.
 impl Table {
     // The routers, in the order of their numbers.
     pub fn routers(&self) -> &[Router]
