@@ -3,7 +3,8 @@ ghost use Rattle.faults.specs.declared.layer.Layer.{Layer};
 
 use crate::layer::Layer;
 
-// What every fault tells: its number, the layer that refuses, and the place of what is at fault.
+// What every fault tells: its number, the layer that refuses, and the place of what is at fault. Each layer's faults are
+// an enum of their own, which holds the place in each case, so each has an impl of its own.
 pub trait Fault {
     ghost number: { Self → ℕ };
 

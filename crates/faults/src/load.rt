@@ -16,6 +16,8 @@ pub enum LoadFault {
     Graph(GraphFault),
 }
 
+// By hand, an impl for each layer: what a derive writes promises nothing of the fault that it makes.
+
 impl From<RecordFault> for LoadFault {
     ghost use Rattle.std.specs.Prelude.{◌≡◌};
     ghost use Rattle.faults.specs.declared.load.LoadFault.TheVariants.{Record};

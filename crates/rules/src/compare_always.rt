@@ -13,7 +13,8 @@ use layout::ExitPath;
 use selection::Criterion;
 use sets::PathSet;
 
-// The highest preference, then the shortest AS path, then the lowest MED, whatever the neighbour AS.
+// The highest preference, then the shortest AS path, then the lowest MED, whatever the neighbour AS. A type of its own,
+// as `FiveStage` is.
 #[derive(Clone, Copy, Debug, PartialEq, Eq)]
 pub struct CompareAlways;
 

@@ -14,7 +14,8 @@ use layout::ExitPath;
 use selection::Criterion;
 use sets::PathSet;
 
-// The highest preference, then the shortest AS path, then for each neighbour AS the lowest MED.
+// The highest preference, then the shortest AS path, then for each neighbour AS the lowest MED. A type of its own, as a
+// value of `Extreme` has a type with other criteria too, whose `keep` could not promise the plain terms.
 #[derive(Clone, Copy, Debug, PartialEq, Eq)]
 pub struct FiveStage;
 
