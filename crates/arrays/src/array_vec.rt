@@ -1,8 +1,7 @@
 ghost use Rattle.std.specs.Prelude.{◌≡◌, ◌<◌, ◌≤◌, ◌↔◌, [], ◌∷◌, ◌++◌, length, IsOk, OnOk, OnErr, IsTrue};
 
-use std::error::Error;
-use std::fmt;
 use std::marker::Model;
+use thiserror::Error;
 
 // At most `N` values in order, the first `len` of the array; what lies past them is of no account.
 // An array with a length beside it, since the library uses no heap.
@@ -27,16 +26,9 @@ impl<T: Copy, const N: usize> Model for ArrayVec<T, N> {
 }
 
 // There are `N` values already.
-#[derive(Clone, Copy, Debug, PartialEq, Eq)]
+#[derive(Clone, Copy, Debug, PartialEq, Eq, Error)]
+#[error("there is no room for another value")]
 pub struct Full;
-
-impl fmt::Display for Full {
-    fn fmt<W: fmt::Write>(&self, f: &mut fmt::Formatter<W>) -> fmt::Result {
-        f.write_str("there is no room for another value")
-    }
-}
-
-impl Error for Full {}
 
 impl<T: Copy, const N: usize> ArrayVec<T, N> {
     // No value; `fill` stands in the places that are not used yet.

@@ -1,4 +1,4 @@
-ghost use Rattle.std.specs.Prelude.{◌≡◌, ◌&&◌, length, map, OnErr, nat_lt};
+ghost use Rattle.std.specs.Prelude.{◌≡◌, ◌&&◌, [], ◌∷◌, ◌++◌, length, map, OnOk, OnErr, nat_lt};
 ghost use Rattle.layout.specs.Checks.{declaring, clients_of_one};
 ghost use Rattle.layout.specs.Table.{nothing};
 ghost use Rattle.records.specs.Readings.{kind_in, body_in};
@@ -24,6 +24,19 @@ fn check_room<T: Copy, const N: usize>(
         return Err(TableFault::TooMany(place));
     }
     Ok(())
+}
+
+// Adds what the record at a place declares to a list.
+fn add<T: Copy, const N: usize>(
+    list: &mut ArrayVec<T, N>,
+    place: usize,
+    x: T,
+) -> Result<(), TableFault>
+    ensures room { result ≡ fitting N (length list.old) place }
+    ensures ok { OnOk result (list.new ≡ list.old ++ x ∷ []) }
+    ensures err { OnErr result (list.new ≡ list.old) }
+{
+    list.try_push(x).map_err(|_| TableFault::TooMany(place))
 }
 
 impl Declarations {
@@ -88,9 +101,7 @@ impl Declarations {
             return Err(TableFault::OutOfRange(place));
         }
         let role = Role::try_from(body[1]).map_err(|_| TableFault::OutOfRange(place))?;
-        self.routers
-            .try_push(Router { cluster, role })
-            .map_err(|_| TableFault::TooMany(place))
+        add(&mut self.routers, place, Router { cluster, role })
     }
 
     fn link(&mut self, place: usize, body: &[u8; 4]) -> Result<(), TableFault>
@@ -106,9 +117,7 @@ impl Declarations {
             return Err(TableFault::OutOfRange(place));
         }
         self.check_ends(place, ends, self.links.as_slice())?;
-        self.links
-            .try_push(Link { ends, metric })
-            .map_err(|_| TableFault::TooMany(place))
+        add(&mut self.links, place, Link { ends, metric })
     }
 
     fn session(&mut self, place: usize, body: &[u8; 2]) -> Result<(), TableFault>
@@ -123,9 +132,7 @@ impl Declarations {
         if !self.clients_of_one(ends) {
             return Err(TableFault::BadSession(place));
         }
-        self.sessions
-            .try_push(Session { ends })
-            .map_err(|_| TableFault::TooMany(place))
+        add(&mut self.sessions, place, Session { ends })
     }
 
     fn path(&mut self, place: usize, body: &[u8; 20]) -> Result<(), TableFault>
@@ -146,9 +153,7 @@ impl Declarations {
             exit_cost: u16::from_be_bytes([body[14], body[15]]),
             speaker: four_bytes(body, 16),
         };
-        self.paths
-            .try_push(path)
-            .map_err(|_| TableFault::TooMany(place))
+        add(&mut self.paths, place, path)
     }
 
     // One record more, or the first rule that it breaks.

@@ -13,6 +13,8 @@ pub(crate) trait Joins {
         ensures { result ≡ ends self.now };
 }
 
+// Links and sessions are types of their own, so each has an impl.
+
 impl Joins for Link {
     ghost ends = { link_ends };
 

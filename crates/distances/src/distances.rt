@@ -6,7 +6,8 @@ mod work;
 
 use tables::Table;
 
-// A table, and the least distance from each of its routers to each other.
+// A table, and the least distance from each of its routers to each other. The fact is a ghost field and not a model's
+// invariant, so that whoever holds the distances has it, without a call.
 #[derive(Drop)]
 pub struct Distances {
     table: Table,

@@ -10,6 +10,15 @@ use faults::CallFault;
 use layout::ExitPath;
 use sets::PathSet;
 
+// The metric of a path at a router, by the distances from that router.
+fn metric_over(row: &[u32], path: ExitPath) -> u32
+    requires in_row { path.exit_point < length row.now }
+    requires near { slice_index row.now path.exit_point + path.exit_cost < 2 ^ 32 }
+    ensures { result ≡ slice_index row.now path.exit_point + path.exit_cost }
+{
+    row[path.exit_point as usize] + path.exit_cost as u32
+}
+
 // What decides between paths at a router, in this order: the router's own exits come first, then the nearer,
 // then the lower speaker, then the lower number.
 #[derive(Clone, Copy, PartialEq, Eq, PartialOrd, Ord)]
@@ -30,7 +39,7 @@ impl Offer {
     {
         Offer {
             elsewhere: path.exit_point as u32 != router,
-            metric: row[path.exit_point as usize] + path.exit_cost as u32,
+            metric: metric_over(row, path),
             speaker: path.speaker,
             path: p as u8,
         }
@@ -39,7 +48,7 @@ impl Offer {
 
 // The best path of a router of a set: if some of the set leave at the router itself only those count; the
 // least metric wins, then the lowest speaker, then the lowest number. None where no path of the set is
-// declared.
+// declared. The set comes apart from the distances, which stay while sets come and go.
 pub fn best(distances: &Distances, router: u32, set: PathSet) -> Result<Option<u8>, CallFault>
     ensures value { result ≡ best_answer (declared_by distances.now) set router }
     ensures plain { IfOk result (BestIs plain (declared_by distances.now) set router) }
@@ -64,5 +73,5 @@ pub fn metric(distances: &Distances, router: u32, path: u32) -> Result<u32, Call
         .get(path as usize)
         .ok_or(CallFault::UndeclaredPath(path))?;
     let row = distances.row(router)?;
-    Ok(row[exit.exit_point as usize] + exit.exit_cost as u32)
+    Ok(metric_over(row, *exit))
 }

@@ -15,7 +15,7 @@ use sets::PathSet;
 const MOST_MET: usize = 32;
 
 // The way of a packet: how many routers it meets, first and last included, and the path by which it leaves. The routers
-// themselves go into the caller's buffer.
+// themselves go into the caller's buffer, as the library has no heap.
 #[derive(Clone, Copy, PartialEq, Eq, Debug)]
 pub struct Way {
     pub count: usize,
@@ -73,9 +73,8 @@ pub fn trace(
     ensures leaves { router < length (declared_by distances.now).routers → LeavesFrom plain (declared_by distances.now) set router }
     ensures however { AlwaysLeaves plain (declared_by distances.now) set }
 {
-    if router as usize >= distances.table().routers().len() {
-        return Err(CallFault::UndeclaredRouter(router));
-    }
+    // The router is declared.
+    distances.row(router)?;
     if met.len() < MOST_MET {
         return Err(CallFault::ShortBuffer(MOST_MET));
     }

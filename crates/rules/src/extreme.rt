@@ -30,7 +30,8 @@ fn extremes(criterion: Criterion, paths: &[ExitPath], set: PathSet) -> PathSet
     ensures { result ≡ extremes criterion paths.now set }
 {
     let mut picked = PathSet::empty();
-    // No rank passes the largest number, so the first path needs no case of its own, as it would with an `Option`.
+    // One pass, which looks at each path once: the least rank by `min`, and then the paths that have it, would look twice.
+    // No rank passes the largest number, so the first path needs no case of its own.
     let mut lowest = u32::MAX;
     for p in set {
         let rank = criterion.rank(paths[p as usize]);

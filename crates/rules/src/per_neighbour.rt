@@ -22,7 +22,8 @@ impl<R> PerNeighbour<R> {
     }
 }
 
-// The paths of a set through a neighbour AS.
+// The paths of a set through a neighbour AS. A loop, as `filter` on a set would take a closure, and each call would say
+// again what that answers.
 fn through(paths: &[ExitPath], set: PathSet, neighbour_as: u32) -> PathSet
     requires { AllDeclared paths.now set }
     ensures { result ≡ through paths.now set neighbour_as }

@@ -32,7 +32,7 @@ impl<const WIDTH: u32> BitSet<WIDTH> {
         ensures members { Empty result }
         ensures word { result ≡ 0 }
     {
-        Self(0)
+        Self::default()
     }
 
     // The numbers below `n`; all that a set can hold where `n` is at or past the width.

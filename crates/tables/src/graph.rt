@@ -67,11 +67,10 @@ fn labelled(links: &[Link]) -> [u8; 32]
 
 // The first of `count` routers that links do not join to router 0.
 pub(crate) fn cut_off_router(count: usize, links: &[Link]) -> Option<usize>
-    requires few { count ≤ 32 }
-    requires declared { All Labellable links.now }
+    requires { All Labellable links.now }
     ensures { result ≡ position (cut_off (labels links.now)) (take count (labels links.now)) }
 {
     let labels = labelled(links);
     let first = labels[0];
-    labels[..count].iter().position(|label| *label != first)
+    labels.iter().take(count).position(|label| *label != first)
 }

@@ -7,7 +7,8 @@ mod read;
 
 use declarations::Declarations;
 
-// A well-formed table, in fixed memory of the format's own limits.
+// A well-formed table, in fixed memory of the format's own limits. The fact is a ghost field and not a model's invariant,
+// so that whoever holds a table has it, without a call.
 #[derive(Drop)]
 pub struct Table {
     declarations: Declarations,

@@ -5,7 +5,7 @@ use crate::distances::Distances;
 use faults::CallFault;
 use tables::Table;
 
-// The costs of a row to the first `count` routers.
+// The costs of a row to the first `count` routers. By itself, since within the array a proof loses how long a row is.
 fn front(row: &[u32; 32], count: usize) -> &[u32]
     requires { count ≤ 32 }
     ensures value { result.now ≡ take count row.now }

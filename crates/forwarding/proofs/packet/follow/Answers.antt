@@ -1,4 +1,4 @@
-use Rattle.std.proofs.Common.{◌≡◌, ◌+◌, set, Some, None, Ok, sym, ap, ◌∙◌, subst, arith}
+use Rattle.std.proofs.Common.{◌≡◌, ◌+◌, set, Some, Ok, sym, ap, ◌∙◌, subst, arith}
 use Rattle.std.proofs.lemmas.List.{set-get_or}
 use Rattle.distances.specs.Answered.{declared_by}
 use Rattle.forwarding.proofs.Traced.{Traced, setting, exit_read, traced_begins, traced_out, traced_on, traced_none, traced_within, hop_not_refused}
@@ -22,13 +22,6 @@ pub returns-in_err-next : goal.returns-in_err-next
 returns-in_err-next c =
     let exit = exit_read c.args.distances.now _ _ c.paths-paths.ensures.value c.table.ensures c.in-Some.path in
     absurd (hop_not_refused (setting c.args.distances.now c.requires.declared c.requires.room) c.loop-before.at c.in_ok-path.ensures.value c.in-Some.is c.loop-before.invariant exit c.in_err-next.ensures.value)
-
-pub returns-in_default-2 : goal.returns-in_default-2
-returns-in_default-2 c =
-    let exit = exit_read c.args.distances.now _ _ c.paths-paths.ensures.value c.table.ensures c.in-Some.path in
-    let on = traced_on (setting c.args.distances.now c.requires.declared c.requires.room) c.loop-before.at c.in_ok-path.ensures.value c.in-Some.is c.loop-before.invariant exit c.if-exit_point-at.false c.in_ok-next.ensures.value in
-    let none : None ≡ Some on.0 = sym c.in_default-2.is ∙ on.1 in
-    absurd (cc)
 
 pub loop-before-preserved : goal.loop-before-preserved
 loop-before-preserved c =
