@@ -7,7 +7,8 @@ use crate::table::Table;
 use sets::PathSet;
 
 impl Table {
-    // The exit paths of a router; none where the router is not declared.
+    // The exit paths of a router; none where the router is not declared. A loop, as a set's `filter` would take a closure,
+    // and this call would say again what that answers.
     pub fn exits_at(&self, router: u32) -> PathSet
         ensures { (p : ℕ) → member result p ≡ leaves_at router (declared self.now).paths p }
     {
