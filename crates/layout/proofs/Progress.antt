@@ -1,7 +1,6 @@
 -- The reading of a table, one record after another. Assumes nothing.
-use Rattle.std.proofs.Common.{◌≡◌, ℕ, ◌+◌, ◌<◌, List, [], ◌∷◌, length, drop, Ok, Err, sym, refl, ap, ◌∙◌, subst, one-add, arith}
+use Rattle.std.proofs.Common.{◌≡◌, ℕ, ◌+◌, ◌<◌, List, [], ◌∷◌, drop, Ok, Err, sym, refl, ap, ◌∙◌, subst, one-add, arith}
 use Rattle.std.proofs.lemmas.List.Elements.{All-drop, All-tail, All-take}
-use Rattle.std.proofs.lemmas.List.{length-drop}
 use Rattle.faults.specs.declared.load.LoadFault.TheVariants.{Record, Table}
 use Rattle.faults.specs.declared.record.RecordFault.{RecordFault}
 use Rattle.faults.specs.declared.table.TableFault.{TableFault}
@@ -34,12 +33,6 @@ begun bs bytes = record {
 found_in : (before place : ℕ) (rest : List ℕ) (p : ℕ) (k : Kind) (body : List ℕ) → reading_at before place rest ≡ found p k body → (b : ℕ) × (more : List ℕ) × (rest ≡ b ∷ more) × Found before place b more p k body
 found_in before place [] p k body e = absurd (ended_not_found p k body e)
 found_in before place (b ∷ more) p k body e = (b, more, refl, subst (Read before place b more) e (read before place b more))
-
--- less is left behind it
-pub found_less : (s : Standing) (p : ℕ) (k : Kind) (body : List ℕ) → found p k body ≡ reading s → length (passing s (found p k body)).rest < length s.rest
-found_less s p k body e =
-    let f = found_in s.before s.place s.rest p k body (sym e) in
-    omega (arith, length-drop (1 + body_length k) s.rest, ap length f.2)
 
 module _ (bs : List ℕ) (t : Declared) (s : Standing) (h : Progress bs t s) where
   pub ends : ended ≡ reading s → of_graph (whole t) ≡ table_in bs

@@ -1,5 +1,5 @@
 -- The checks of the whole tell whether it is led and connected. Assumes nothing.
-use Rattle.std.proofs.Common.{◌≡◌, ℕ, ◌<◌, ◌≤◌, Bool, true, false, not, eqb, ◌⊎◌, List, length, get_or, take, Some, None, Ok, Err, Decides, All, Option, Result, sym, refl, ap, ◌∙◌, subst, inl, inr, ⊎_elim, arith}
+use Rattle.std.proofs.Common.{◌≡◌, ℕ, ◌<◌, ◌≤◌, true, false, not, eqb, ◌⊎◌, List, length, get_or, take, Some, None, Ok, Err, Decides, All, Option, Result, sym, refl, ap, ◌∙◌, subst, inl, inr, ⊎_elim, arith}
 use Rattle.std.proofs.lemmas.List.Elements.{All-weaker}
 use Rattle.std.proofs.lemmas.List.{get_or_default, get_or-take, length-take-le}
 use Rattle.std.proofs.lemmas.Bool.{and_parts, eqb-true, eqb-false, eq-eqb, ne_eqb, not-true, not-false, not_from_true, not_from_false, false≢true, cond-true, cond-false, cases_Bool}
@@ -145,20 +145,6 @@ whole_accepts t w =
 
 -- what the answers of the single checks come to
 module _ (t : Declared) (s : Sound t) where
-  pub all_labellable : All Labellable t.links
-  all_labellable = fits t s
-
-  some_below : {X : Type 0} (p : X → Bool) (xs : List X) (v : ℕ) → length xs ≤ 32 → Some v ≡ position p xs → v < 32
-  some_below p xs v few e =
-      let f : First p 0 xs (Some v) = subst (First p 0 xs) (sym e) (first p xs) in
-      omega (arith, f.1, f.2)
-
-  pub unled_below : (v : ℕ) → Some v ≡ position (unled t.routers) t.routers → v < 32
-  unled_below v e = some_below (unled t.routers) t.routers v s.few_routers e
-
-  pub cut_off_below : (v : ℕ) → Some v ≡ position (cut_off (labels t.links)) (take (length t.routers) (labels t.links)) → v < 32
-  cut_off_below v e = some_below (cut_off (labels t.links)) (take (length t.routers) (labels t.links)) v (omega (arith, row_length t s, s.few_routers)) e
-
   pub well_formed : 1 ≤ length t.routers → None ≡ position (unled t.routers) t.routers → None ≡ position (cut_off (labels t.links)) (take (length t.routers) (labels t.links)) → WellFormed t
   well_formed some e f =
       (graph_tells t s some None None (subst (First (unled t.routers) 0 t.routers) (sym e) (first (unled t.routers) t.routers))

@@ -1,5 +1,5 @@
 -- The declared paths of a set. Assumes nothing.
-use Rattle.std.proofs.Common.{◌≡◌, ℕ, ◌-◌, ◌^◌, ◌<◌, min, Bool, true, ◌&&◌, ltb, List, length, sym, ap, ◌∙◌, subst, inl, inr, arith}
+use Rattle.std.proofs.Common.{◌≡◌, ℕ, ◌-◌, ◌^◌, ◌<◌, min, Bool, true, ◌&&◌, ltb, List, length, sym, ap, ◌∙◌, inl, inr, arith}
 use Rattle.std.proofs.lemmas.Bool.{and_parts, and_from, and_left, cases_lt, ltb-true, lt-ltb}
 use Rattle.std.proofs.lemmas.Bool.Decides.{nat_tests}
 use Rattle.layout.specs.declared.path.ExitPath.{ExitPath}
@@ -22,10 +22,6 @@ declared_in xs s p o = member_declared xs s p ∙ and_from (member s p) (ltb p (
 
 pub declared_all : (xs : List ExitPath) (s : ℕ) → AllDeclared xs (declared_of xs s)
 declared_all xs s p m = (declared_from xs s p m).0
-
--- a word that is the declared part of a set
-pub declared_word : (xs : List ExitPath) (s w : ℕ) → w ≡ declared_of xs s → AllDeclared xs w
-declared_word xs s w is = subst (AllDeclared xs) (sym is) (declared_all xs s)
 
 -- of a set of declared paths nothing is dropped
 pub declared_same : (xs : List ExitPath) (s : ℕ) → AllDeclared xs s → declared_of xs s ≡ s

@@ -1,54 +1,23 @@
 -- The paths of a set are parted by neighbour AS, one neighbour after another. Assumes nothing.
-use Rattle.std.proofs.Common.{◌≡◌, ℕ, ◌<◌, Bool, true, false, not, ◌&&◌, ◌||◌, List, sym, refl, ap, ◌∙◌, subst, inl, inr}
+use Rattle.std.proofs.Common.{◌≡◌, ℕ, ◌<◌, Bool, true, false, not, ◌&&◌, ◌||◌, List, sym, refl, ap, ◌∙◌, inl, inr}
 use mathlib.Core.Bool.{and-false}
 use lib.Count.{ones}
 use Rattle.std.proofs.lemmas.Bool.{and_cases, and_from, and_parts, both_ways, cases_Bool, not-true, not-false, not_from_false, or_cases, or_left, or_right}
 use Rattle.layout.specs.declared.path.ExitPath.{ExitPath}
 use Rattle.sets.specs.Members.{member, Empty, Subset}
 use Rattle.sets.proofs.Counting.{ones_less}
-use Rattle.sets.proofs.Subsets.{same_from_subsets, subset_refl}
+use Rattle.sets.proofs.Subsets.{same_from_subsets}
 use Rattle.selection.specs.Laws.{AllDeclared, Keeping, Laws, declared_of}
 use Rattle.selection.specs.Stages.{through, keep_per_neighbour}
 use Rattle.selection.proofs.DeclaredPart.{declared_same}
 use Rattle.selection.proofs.Neighbours.{neighbour, neighbour_from, neighbour_has, through_declared, through_from, through_in}
-use Rattle.selection.proofs.Taking.{Put, Seen, Taken, put_cases, put_in, put_still, taken_cases, taken_out, taken_still, taken_within}
+use Rattle.selection.proofs.Taking.{Seen}
 
 -- of the numbers of s that are no longer in rest, `found` has the paths through the neighbour AS a
 pub record Found (xs : List ExitPath) (a s rest found : ℕ) : Type 0 where
   pub part : Subset rest s
   pub from : (j : ℕ) → member found j ≡ true → Seen s rest j × (neighbour xs j ≡ a)
   pub all : (j : ℕ) → Seen s rest j → neighbour xs j ≡ a → member found j ≡ true
-
-pub found_begins : (xs : List ExitPath) (a s found : ℕ) → Empty found → Found xs a s s found
-found_begins xs a s found none = record {
-  part = subset_refl s;
-  from = λ j m. absurd (both_ways (member found j) (none j) m);
-  all = λ j seen e. absurd (both_ways (member s j) seen.1 seen.0);
-}
-
-module _ (xs : List ExitPath) (a s rest found p r t : ℕ) (so : Found xs a s rest found) (held : member rest p ≡ true) (fits : p < 64) (taken : Taken rest p r) where
-  pub found_with : neighbour xs p ≡ a → Put found p t → Found xs a s r t
-  found_with same put = record {
-    part = λ k m. so.part k (taken_within rest p r taken k m);
-    from = λ j m. elim (put_cases found p t j put m) [
-      | inl h ↦ (taken_still s rest p r j taken (so.from j h).0, (so.from j h).1)
-      | inr e ↦ (subst (Seen s r) (sym e) (so.part p held, taken_out rest p r taken), ap (neighbour xs) e ∙ same)
-    ];
-    all = λ j seen e. elim (taken_cases s rest p r j taken seen) [
-      | inl at ↦ ap (member t) at ∙ put_in found p t put fits
-      | inr old ↦ put_still found p t j put (so.all j old e)
-    ];
-  }
-
-  pub found_without : (neighbour xs p ≡ a → ⊥) → Found xs a s r found
-  found_without other = record {
-    part = λ k m. so.part k (taken_within rest p r taken k m);
-    from = λ j m. (taken_still s rest p r j taken (so.from j m).0, (so.from j m).1);
-    all = λ j seen e. elim (taken_cases s rest p r j taken seen) [
-      | inl at ↦ absurd (other (ap (neighbour xs) (sym at) ∙ e))
-      | inr old ↦ so.all j old e
-    ];
-  }
 
 pub found_ends : (xs : List ExitPath) (a s rest found : ℕ) → AllDeclared xs s → Found xs a s rest found → Empty rest → found ≡ through xs s a
 found_ends xs a s rest found declared so none =
@@ -62,14 +31,6 @@ pub record Parted (below : Keeping) (xs : List ExitPath) (s rest kept : ℕ) : T
   pub whole : (j k : ℕ) → member rest j ≡ true → member s k ≡ true → neighbour xs k ≡ neighbour xs j → member rest k ≡ true
   pub from : (j : ℕ) → member kept j ≡ true → Seen s rest j × (member (below xs (through xs s (neighbour xs j))) j ≡ true)
   pub all : (j : ℕ) → Seen s rest j → member (below xs (through xs s (neighbour xs j))) j ≡ true → member kept j ≡ true
-
-pub parted_begins : (below : Keeping) (xs : List ExitPath) (s kept : ℕ) → Empty kept → Parted below xs s s kept
-parted_begins below xs s kept none = record {
-  part = subset_refl s;
-  whole = λ j k m held e. held;
-  from = λ j m. absurd (both_ways (member kept j) (none j) m);
-  all = λ j seen e. absurd (both_ways (member s j) seen.1 seen.0);
-}
 
 module _ {below : Keeping} (laws : Laws below) (xs : List ExitPath) (s : ℕ) (declared : AllDeclared xs s) (rest kept : ℕ) (so : Parted below xs s rest kept) where
   -- all of s through the neighbour AS of p are still there

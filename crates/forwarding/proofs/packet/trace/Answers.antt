@@ -1,7 +1,3 @@
-use Rattle.std.proofs.Common.{arith}
-use Rattle.distances.specs.Answered.{declared_by}
-use Rattle.layout.proofs.Certain.{known_well_formed}
-use Rattle.forwarding.proofs.Rows.{answered}
 use Rattle.forwarding.proofs.Traced.{leaves_here, leaves_always}
 use Rattle.forwarding.proofs.packet.trace.Goals as goal
 
@@ -19,8 +15,3 @@ returns-clause-leaves c = leaves_here c.args.distances.now c.args.set c.args.rou
 
 pub returns-clause-however : goal.returns-clause-however
 returns-clause-however c = leaves_always c.args.distances.now c.args.set
-
-pub overflow_cast-router : goal.overflow_cast-router
-overflow_cast-router c =
-    let d = c.args.distances.now in
-    omega (arith, (answered (declared_by d) _ _ _ c.in_ok-row.ensures.value).0, (known_well_formed (declared_by d) d.table.sound).sound.few_routers)

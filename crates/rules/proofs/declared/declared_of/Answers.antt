@@ -1,13 +1,12 @@
-use Rattle.std.proofs.Common.{◌≡◌, Bool, ◌&&◌, ap, ◌∙◌}
+use Rattle.std.proofs.Common.{Bool, ◌&&◌, ap, ◌∙◌}
 use Rattle.sets.specs.Members.{member}
 use Rattle.sets.proofs.Same.{same_set}
 use Rattle.selection.specs.Laws.{declared_of}
-use Rattle.selection.proofs.DeclaredPart.{declared_first, declared_word}
+use Rattle.selection.proofs.DeclaredPart.{declared_first}
 use Rattle.rules.proofs.declared.declared_of.Goals as goal
-use Rattle.rules.proofs.declared.declared_of.Goals.{After-intersection}
 
-value : (c : After-intersection) → c.intersection.result ≡ declared_of c.args.paths.now c.args.set
-value c =
+pub returns-clause-value : goal.returns-clause-value
+returns-clause-value c =
     let xs = c.args.paths.now in
     let s = c.args.set in
     same_set c.intersection.result (declared_of xs s)
@@ -15,9 +14,3 @@ value c =
     c.intersection.ensures.members k
     ∙ ap (λ (t : Bool). member s k && t) (c.first.ensures.members k)
     ∙ declared_first xs s c.min-count.result k c.intersection.ensures.narrow c.min-count.ensures)
-
-pub returns-clause-value : goal.returns-clause-value
-returns-clause-value = value
-
-pub returns-clause-declared : goal.returns-clause-declared
-returns-clause-declared c = declared_word c.args.paths.now c.args.set c.intersection.result (value c)
