@@ -108,11 +108,9 @@ impl Declarations {
         ensures { Declares (declared_in self.old) place link_kind body.now result (declared_in self.new) }
     {
         check_room(&self.links, place)?;
-        let ends = Pair {
-            a: body[0],
-            b: body[1],
-        };
-        let metric = u16::from_be_bytes([body[2], body[3]]);
+        let [a, b, high, low] = *body;
+        let ends = Pair { a, b };
+        let metric = u16::from_be_bytes([high, low]);
         if metric == 0 {
             return Err(TableFault::OutOfRange(place));
         }
@@ -124,10 +122,8 @@ impl Declarations {
         ensures { Declares (declared_in self.old) place session_kind body.now result (declared_in self.new) }
     {
         check_room(&self.sessions, place)?;
-        let ends = Pair {
-            a: body[0],
-            b: body[1],
-        };
+        let [a, b] = *body;
+        let ends = Pair { a, b };
         self.check_ends(place, ends, self.sessions.as_slice())?;
         if !self.clients_of_one(ends) {
             return Err(TableFault::BadSession(place));

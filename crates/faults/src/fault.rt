@@ -3,7 +3,8 @@ ghost use Rattle.faults.specs.declared.layer.Layer.{Layer};
 
 use crate::layer::Layer;
 
-// What every fault tells: its number, the layer that refuses, and the place of what is at fault. An impl for each layer:
+// What every fault tells: its number, the layer that refuses, and the place of what is at fault. A number beside the enum,
+// since programs print it and hosts are handed it. An impl for each layer:
 // a kind with a place beside it would have a place even where there is none, as in a table without a router.
 pub trait Fault {
     ghost number: { Self → ℕ };

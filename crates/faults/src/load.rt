@@ -51,6 +51,7 @@ impl From<GraphFault> for LoadFault {
     }
 }
 
+// Each method asks the layer's own fault: three matches, as no one type stands for the three faults inside.
 impl Fault for LoadFault {
     ghost use Rattle.faults.specs.Faults.{number_of, layer_of, place_of};
 

@@ -61,7 +61,7 @@ fn follow(
 
 // The way of a packet from a router, where every router takes its best path of the set: the routers that it
 // meets, one byte each, go into `met`, and bytes past them stay as they were. None where no path of the set
-// is declared.
+// is declared. The distances and the set come apart, as in `best`.
 pub fn trace(
     distances: &Distances,
     router: u32,

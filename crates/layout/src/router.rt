@@ -11,7 +11,7 @@ pub enum Role {
     Reflector,
 }
 
-// A byte that stands for no role.
+// A byte that stands for no role. Not the error of a kind's byte too: each says in words what the byte is not.
 #[derive(Clone, Copy, Debug, PartialEq, Eq, Error)]
 #[error("no role has byte {0}")]
 pub struct NoRole(pub u8);

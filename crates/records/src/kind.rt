@@ -12,7 +12,7 @@ pub enum Kind {
     Path,
 }
 
-// A byte that begins no record.
+// A byte that begins no record. Not the error of a role's byte too: each says in words what the byte is not.
 #[derive(Clone, Copy, Debug, PartialEq, Eq, Error)]
 #[error("no record begins with byte {0}")]
 pub struct NoKind(pub u8);
