@@ -15,7 +15,7 @@ declared_in l = record { routers = l.routers; links = l.links; sessions = l.sess
 abbrev pub fitting : ℕ → ℕ → ℕ → Result (Unit {0}) TableFault
 fitting n len place = cond (nat_le n len) (Err (TooMany place)) (Ok tt)
 
--- whether a record at a place may join two routers: both are declared, and the pair is none of the earlier ones
+-- whether a record at a place may join two routers: both are declared, they differ, and no earlier pair is the same two
 abbrev pub joining : Declared → ℕ → Pair → List Pair → Result (Unit {0}) TableFault
 joining t place p earlier =
     cond (nat_lt p.a (length t.routers) && nat_lt p.b (length t.routers))
