@@ -1,12 +1,13 @@
 #!/usr/bin/env python3
-"""The tables and sets that the program `cases` plays, each with what it must come to.
+"""The tables, sets and ways that the program `cases` plays, each with what it must come to.
 
   tests/cases.py          holds crates/cases/stdin and crates/cases/stdout to this list
   tests/cases.py --write  writes both files from it
 
 What a table comes to is written here by hand, from docs/FORMAT.md and docs/REFUSALS.md: a refusal
 by its number and place, or the counts of what an accepted table declares and the last of each kind.
-What each rule keeps of a set is written here by hand too, from docs/RULES.md.
+What each rule keeps of a set is written here by hand too, from docs/RULES.md, and where each router
+sends its traffic from docs/PROTOCOL.md.
 """
 import itertools
 import struct
@@ -14,7 +15,7 @@ import sys
 from pathlib import Path
 
 ROOT = Path(__file__).resolve().parent.parent / "crates" / "cases"
-PROVED = 8
+PROVED = 14
 
 CLIENT, REFLECTOR = 0, 1
 CASES = []
@@ -67,6 +68,30 @@ def keeps(name, paths, asked, five_stage, compare_always, declared=None):
     kept = {"all": asked if declared is None else declared, "five-stage": five_stage, "compare-always": compare_always}
     result = "".join(f"\n  {rule}" + "".join(f" {p}" for p in numbers) for rule, numbers in kept.items())
     CASES.append((name, f"{spell([router(0, REFLECTOR), *paths])}; {word:016X}", result))
+
+
+def ways(name, records, asked, *routers):
+    """Of a set of numbers, for each router its best path, the metric, the routers that a packet meets and the path
+    by which it leaves, or nothing; and what is refused behind the last router and the last path."""
+    count, paths = (sum(r[0] == kind for r in records) for kind in (1, 4))
+    assert len(routers) == count
+    lines = []
+    for v, found in enumerate(routers):
+        if found is None:
+            lines.append(f"R{v} - - goes nowhere")
+        else:
+            best, metric, met, out = found
+            lines.append(f"R{v} P{best} {metric} meets {' '.join(map(str, met))} leaves P{out}")
+    lines += [
+        f"best 12 at {count}",
+        f"metric of a path and at a router 11 at {paths}",
+        f"metric at a router 12 at {count}" if paths else "metric at a router 11 at 0",
+        f"next hop 12 at {count}",
+        f"trace from a router into 31 bytes 12 at {count}",
+        "trace into 31 bytes 16 at 32",
+    ]
+    word = sum(1 << p for p in asked)
+    CASES.append((name, f"{spell(records)} > {word:016X}", "".join(f"\n  {line}" for line in lines)))
 
 
 # one reflector and its client, joined
@@ -232,6 +257,52 @@ keeps("the largest MED and one below", [path(0, TOP, med=TOP), path(0, TOP, med=
 keeps("ties at the smallest values", [path(0, 0, 0, 1, 0), path(0, 0, 0, 1, 0), path(0, 0, 0, 2, 0)], [0, 1, 2], [0, 1], [0, 1])
 keeps("the largest and the smallest preference", [path(0, local_pref=0), path(0, local_pref=TOP)], [0, 1], [1], [1])
 keeps("the largest and the smallest neighbour", [path(0, 0, med=TOP), path(0, TOP, med=TOP)], [0, 1], [0, 1], [0, 1])
+
+# where the routers of the worked table send their traffic
+WORKED = [*HEADS, *LINKS, *EXITS]
+KEPT = [(1, 5, [0, 2, 3], 1), (2, 3, [1], 2), (1, 4, [2, 3], 1), (1, 0, [3], 1)]
+ways("ways of the paths that are kept of all", WORKED, [1, 2], *KEPT)
+ways("ways where a path is withdrawn", WORKED, [0, 2], (0, 10, [0, 1], 0), (0, 0, [1], 0), (0, 11, [2, 0, 1], 0), (0, 15, [3, 2, 0, 1], 0))
+ways("ways of no path", WORKED, [], *[None] * 4)
+ways("ways of undeclared paths alone", WORKED, [3, 63], *[None] * 4)
+ways("ways of two paths and undeclared ones", WORKED, [1, 2, 3, 40, 63], *KEPT)
+ways("ways where no path is declared", [*HEADS, *LINKS], ALL, *[None] * 4)
+ways("ways of a router alone", [router(0, REFLECTOR), path(0, exit_cost=9)], [0], (0, 9, [0], 0))
+# a line of 32 routers with the largest metrics and the largest exit cost
+LINE = CROWD + [link(v, v + 1, 65535) for v in range(31)]
+ways("ways along the longest line", LINE + [path(31, exit_cost=65535)], [0], *[(0, (32 - v) * 65535, range(v, 32), 0) for v in range(32)])
+ways("ways back along the longest line", LINE + [path(0)], [0], *[(0, v * 65535, range(v, -1, -1), 0) for v in range(32)])
+# a ring of six: from router 0 both ways are as long, and the lower neighbour is taken
+RING = CROWD[:6] + [link(v, (v + 1) % 6, 7) for v in range(6)]
+ways("ways round a ring", RING + [path(3)], [0], (0, 21, [0, 1, 2, 3], 0), (0, 14, [1, 2, 3], 0), (0, 7, [2, 3], 0), (0, 0, [3], 0), (0, 7, [4, 3], 0), (0, 14, [5, 4, 3], 0))
+ways("ways round a ring to router 0", RING + [path(0)], [0], (0, 0, [0], 0), (0, 7, [1, 0], 0), (0, 14, [2, 1, 0], 0), (0, 21, [3, 2, 1, 0], 0), (0, 14, [4, 5, 0], 0), (0, 7, [5, 0], 0))
+# a star: the metric from its middle to router v is v
+STAR = CROWD[:9] + [link(0, v, v) for v in range(1, 9)]
+ways("ways over a star", STAR + [path(5), path(2, exit_cost=10)], [0, 1], (0, 5, [0, 5], 0), (0, 6, [1, 0, 5], 0), (1, 10, [2], 1),
+     (0, 8, [3, 0, 5], 0), (0, 9, [4, 0, 5], 0), (0, 0, [5], 0), (0, 11, [6, 0, 5], 0), (0, 12, [7, 0, 5], 0), (0, 13, [8, 0, 5], 0))
+# a full mesh of 16: straight to the exit point, or, where every detour is as long, over every router between
+STRAIGHT = CROWD[:16] + [link(a, b, 3) for a, b in itertools.combinations(range(16), 2)]
+ways("ways over a full mesh", STRAIGHT + [path(9, exit_cost=1)], [0], *[(0, 1, [9], 0) if v == 9 else (0, 4, [v, 9], 0) for v in range(16)])
+LEVEL = CROWD[:16] + [link(a, b, 10 * (b - a)) for a, b in itertools.combinations(range(16), 2)]
+ways("ways over a full mesh where detours are as long", LEVEL + [path(15)], [0], *[(0, 10 * (15 - v), range(v, 16), 0) for v in range(16)])
+ways("ways down a full mesh where detours are as long", LEVEL + [path(0)], [0], *[(0, 10 * v, [v, 0] if v else [0], 0) for v in range(16)])
+# a long link is passed by where two short ones lead round it
+ROUND = [*CROWD[:3], link(0, 2, 9), link(1, 0, 3), link(2, 1, 3)]
+ways("ways round a long link", ROUND + [path(2)], [0], (0, 6, [0, 1, 2], 0), (0, 3, [1, 2], 0), (0, 0, [2], 0))
+# several exits at one router: a router with an exit of its own looks at no other
+SEVERAL = [*CROWD[:3], link(0, 1, 1), link(1, 2, 1), path(1, exit_cost=5, speaker=1), path(1, exit_cost=3, speaker=8), path(1, exit_cost=3, speaker=7), path(0, exit_cost=3, speaker=1)]
+ways("ways with several exits at one router", SEVERAL, range(4), (3, 3, [0], 3), (2, 3, [1], 2), (2, 4, [2, 1], 2))
+ways("ways with a worse exit of one's own", [*CROWD[:2], link(0, 1, 1), path(0, exit_cost=9), path(1)], [0, 1], (0, 9, [0], 0), (1, 0, [1], 1))
+# ties go by the speaker, and then by the number
+SIDES = [*CROWD[:3], link(0, 1, 4), link(0, 2, 4)]
+ways("a tie that the speaker decides", SIDES + [path(1, speaker=6), path(2, speaker=5)], [0, 1], (1, 4, [0, 2], 1), (0, 0, [1], 0), (1, 0, [2], 1))
+ways("a tie that the number decides", SIDES + [path(2, speaker=5), path(1, speaker=5)], [0, 1], (0, 4, [0, 2], 0), (1, 0, [1], 1), (0, 0, [2], 0))
+ways("a tie at the largest speakers", SIDES + [path(1, speaker=TOP), path(2, speaker=TOP - 1)], [0, 1], (1, 4, [0, 2], 1), (0, 0, [1], 0), (1, 0, [2], 1))
+ways("a lower metric before a lower speaker", SIDES + [path(1, exit_cost=1, speaker=1), path(2, speaker=9)], [0, 1], (1, 4, [0, 2], 1), (0, 1, [1], 0), (1, 0, [2], 1))
+ways("ties of 64 equal paths", [router(0, REFLECTOR)] + [path(0)] * 64, ALL, (0, 0, [0], 0))
+ways("of 64 paths the last", [router(0, REFLECTOR)] + [path(0, exit_cost=99 - p) for p in ALL], ALL, (63, 36, [0], 63))
+# a packet leaves at a router on the way that has an exit of its own, whatever its first router reckoned
+ways("a packet that leaves early", [*CROWD[:3], link(0, 1, 1), link(1, 2, 1), path(2), path(1, exit_cost=100)], [0, 1], (0, 2, [0, 1], 1), (1, 100, [1], 1), (0, 0, [2], 0))
 
 
 def texts():

@@ -1,10 +1,13 @@
 // Plays tables written in hexadecimal, a line each, and prints what each comes to; of a line with a set
-// of paths behind the table, what each rule keeps of the set.
+// of paths behind the table, what each rule keeps of the set, or where each router sends its traffic.
 #![tactic(auto)]
 
 ghost use Rattle.std.specs.Prelude.{◌≡◌, length, All};
 ghost use Rattle.cases.specs.Worked.{Holds, worked};
 
+mod ways;
+
+use crate::ways::ways;
 use anyhow::Context;
 use faults::Fault;
 use layout::{ExitPath, Pair};
@@ -18,7 +21,7 @@ fn worked_cases() -> usize
     ensures hold { All Holds worked }
     ensures count { result ≡ length worked }
 {
-    8
+    14
 }
 
 // The value of a hexadecimal digit in upper case; `to_digit` would take lower case too.
@@ -92,7 +95,7 @@ fn last_path(rt: &impl Print, path: ExitPath) -> anyhow::Result<()> {
     Ok(())
 }
 
-// What a rule keeps of a set.
+// What one rule keeps of a set.
 fn keep<R: Rule>(
     rt: &impl Print,
     name: &str,
@@ -108,49 +111,78 @@ fn keep<R: Rule>(
     Ok(())
 }
 
-fn play(rt: &impl Print, name: &str, bytes: &[u8], set: Option<PathSet>) -> anyhow::Result<()> {
-    let table = match Table::read(bytes) {
-        Ok(table) => table,
-        Err(fault) => {
-            println!(rt; "{name}: {} at {}", fault.number(), fault.place())?;
-            return Ok(());
-        }
-    };
-    let paths = table.paths();
-    if let Some(set) = set {
-        println!(rt; "{name}:")?;
-        keep(rt, "all", &rules::All, paths, set)?;
-        keep(rt, "five-stage", &FiveStage, paths, set)?;
-        return keep(rt, "compare-always", &CompareAlways, paths, set);
-    }
+// What is asked of a table.
+#[derive(Clone, Copy)]
+enum Asked {
+    // What it declares.
+    Records,
+    // What each rule keeps of a set.
+    Rules(PathSet),
+    // Where each router sends its traffic, of a set.
+    Ways(PathSet),
+}
+
+// How many of each kind a table declares, and the last of each.
+fn records(rt: &impl Print, table: &Table) -> anyhow::Result<()> {
     println!(rt;
-        "{name}: {} routers, {} links, {} sessions, {} paths",
+        " {} routers, {} links, {} sessions, {} paths",
         table.routers().len(),
         table.links().len(),
         table.sessions().len(),
-        paths.len()
+        table.paths().len()
     )?;
-    last_records(rt, &table)
+    last_records(rt, table)
+}
+
+// What each rule keeps of a set.
+fn keeps(rt: &impl Print, paths: &[ExitPath], set: PathSet) -> anyhow::Result<()> {
+    keep(rt, "all", &rules::All, paths, set)?;
+    keep(rt, "five-stage", &FiveStage, paths, set)?;
+    keep(rt, "compare-always", &CompareAlways, paths, set)
+}
+
+fn play(rt: &impl Print, name: &str, bytes: &[u8], asked: Asked) -> anyhow::Result<()> {
+    print!(rt; "{name}:")?;
+    let table = match Table::read(bytes) {
+        Ok(table) => table,
+        Err(fault) => {
+            println!(rt; " {} at {}", fault.number(), fault.place())?;
+            return Ok(());
+        }
+    };
+    match asked {
+        Asked::Records => records(rt, &table),
+        Asked::Rules(set) => {
+            println!(rt; "")?;
+            keeps(rt, table.paths(), set)
+        }
+        Asked::Ways(set) => {
+            println!(rt; "")?;
+            ways(rt, table, set)
+        }
+    }
 }
 
 // The set whose word a text spells in eight bytes, the highest first.
-fn set(heap: Global, text: &str) -> Result<Option<PathSet>, AllocError> {
-    let Some(bytes) = spelled(heap, text)? else {
-        return Ok(None);
-    };
-    let word = bytes.as_slice().as_array().copied();
-    Ok(word.map(|word| PathSet::from(u64::from_be_bytes(word))))
+fn set(heap: Global, text: &str) -> anyhow::Result<PathSet> {
+    let bytes = spelled(heap, text)?.context("a set that spells no bytes")?;
+    let word = bytes
+        .as_slice()
+        .as_array()
+        .context("a set that is not eight bytes")?;
+    Ok(PathSet::from(u64::from_be_bytes(*word)))
 }
 
-// A line is a name, a colon and the bytes, and where rules are asked a semicolon and a set.
+// A line is a name, a colon and the bytes; where rules are asked, a semicolon and a set, and where ways are
+// asked, an angle and a set.
 fn line(rt: &HostRuntime, text: &str) -> anyhow::Result<()> {
     let (name, rest) = text.split_once(':').context("a line without a colon")?;
-    let (table, asked) = match rest.split_once(';') {
-        Some((table, word)) => {
-            let set = set(rt.alloc(), word)?.context("a line whose set is not eight bytes")?;
-            (table, Some(set))
-        }
-        None => (rest, None),
+    let (table, asked) = if let Some((table, word)) = rest.split_once(';') {
+        (table, Asked::Rules(set(rt.alloc(), word)?))
+    } else if let Some((table, word)) = rest.split_once('>') {
+        (table, Asked::Ways(set(rt.alloc(), word)?))
+    } else {
+        (rest, Asked::Records)
     };
     let bytes = spelled(rt.alloc(), table)?.context("a line that spells no bytes")?;
     play(rt, name, bytes.as_slice(), asked)

@@ -1,41 +1,35 @@
-// Reads a table from standard input and reports what is in it, or why it is refused.
+// Reads a table from standard input and prints where each router sends its traffic when every path is
+// injected, or why the table is refused.
 #![tactic(auto)]
 
+use distances::Distances;
 use faults::{Fault, LoadFault};
+use forwarding::{best, metric};
 use rules::{FiveStage, advertised};
 use sets::PathSet;
 use std::io::Read;
 use tables::Table;
 
-// How many of the declared paths the five-stage rule keeps, and which.
-fn kept(rt: &impl Print, table: &Table) -> anyhow::Result<()> {
-    let paths = table.paths();
-    let kept = advertised(&FiveStage, paths, PathSet::first(u64::BITS));
-    print!(rt;
-        "five-stage keeps {} of {} exit paths",
-        kept.len(),
-        paths.len()
-    )?;
-    let mut mark = ':';
-    for p in kept {
-        print!(rt; "{mark} P{p}")?;
-        mark = ',';
+// The best path of a router of a set, and its metric.
+fn line(rt: &impl Print, distances: &Distances, router: u32, set: PathSet) -> anyhow::Result<()> {
+    match best(distances, router, set)? {
+        Some(path) => {
+            let metric = metric(distances, router, path as u32)?;
+            println!(rt; "R{router} P{path} {metric}")?;
+        }
+        None => println!(rt; "R{router} - -")?,
     }
-    println!(rt; "")?;
     Ok(())
 }
 
-// A line a router: its cluster, its role and how many exit paths it has.
-fn report(rt: &impl Print, table: &Table) -> anyhow::Result<()> {
-    for (v, router) in table.routers().iter().enumerate() {
-        println!(rt;
-            "R{v} cluster {} {} exit paths {}",
-            router.cluster,
-            router.role,
-            table.exits_at(v as u32).len()
-        )?;
+// A line a router, where all advertise what the five-stage rule keeps of all paths.
+fn list(rt: &impl Print, table: Table) -> anyhow::Result<()> {
+    let kept = advertised(&FiveStage, table.paths(), PathSet::first(u64::BITS));
+    let distances = Distances::of(table);
+    for router in 0..distances.table().routers().len() {
+        line(rt, &distances, router as u32, kept)?;
     }
-    kept(rt, table)
+    Ok(())
 }
 
 // The number and the place, and on standard error the reason in words.
@@ -49,7 +43,7 @@ fn run(rt: &HostRuntime) -> anyhow::Result<()> {
     let mut bytes = Vec::new(rt.alloc());
     rt.stdin().read_to_end(&mut bytes)?;
     match Table::read(bytes.as_slice()) {
-        Ok(table) => report(rt, &table),
+        Ok(table) => list(rt, table),
         Err(fault) => refuse(rt, fault),
     }
 }
