@@ -83,7 +83,7 @@ fn refusals(rt: &impl Print, distances: &Distances, set: PathSet) -> anyhow::Res
 }
 
 // Of a table and a set of its paths, a line a router, and then what is refused.
-pub fn ways(rt: &impl Print, table: Table, set: PathSet) -> anyhow::Result<()> {
+pub(crate) fn ways(rt: &impl Print, table: Table, set: PathSet) -> anyhow::Result<()> {
     let distances = Distances::of(table);
     for v in 0..distances.table().routers().len() {
         router(rt, &distances, v as u32, set)?;
