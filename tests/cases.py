@@ -50,13 +50,15 @@ def accepted(name, *records):
     """The counts, and the fields of the last record of each kind."""
     of_kind = [[r for r in records if r[0] == kind] for kind in (1, 2, 3, 4)]
     lines = ["%d routers, %d links, %d sessions, %d paths" % tuple(map(len, of_kind))]
+    if of_kind[0]:
+        _, cluster, role = of_kind[0][-1]
+        lines.append(f"last router cluster {cluster} {('client', 'reflector')[role]}")
     forms = [
-        (">xBB", "last router cluster %d role %d"),
         (">xBBH", "last link %d %d metric %d"),
         (">xBB", "last session %d %d"),
         (">xBIIBIHI", "last path exit point %d AS %d preference %d length %d MED %d cost %d speaker %d"),
     ]
-    for (form, text), last in zip(forms, of_kind):
+    for (form, text), last in zip(forms, of_kind[1:]):
         if last:
             lines.append(text % struct.unpack(form, last[-1]))
     CASES.append((name, spell(records), " " + "\n  ".join(lines)))

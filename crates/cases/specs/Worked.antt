@@ -59,7 +59,7 @@ kept_of kept t s = kept t t.paths (declared_of t.paths s)
 
 -- the best path of router v among what the five-stage rule keeps, taken for a rule
 abbrev pub keep_best : ℕ → Declared → Keeping
-keep_best v t xs s = one_of (best plain (record { routers = t.routers; links = t.links; sessions = t.sessions; paths = xs }) (keep_five_stage xs s) v)
+keep_best v t xs s = one_of (best plain (record t { paths = xs }) (keep_five_stage xs s) v)
 
 -- the best path of each router, and its metric there
 abbrev pub best_paths : Declared → ℕ → List (Option ℕ)

@@ -61,11 +61,7 @@ fn spelled(heap: Global, text: &str) -> Result<Option<Vec<u8>>, AllocError> {
 // The last router, link, session and path, field by field.
 fn last_records(rt: &impl Print, table: &Table) -> anyhow::Result<()> {
     if let Some(router) = table.routers().last() {
-        println!(rt;
-            "  last router cluster {} role {}",
-            router.cluster,
-            u8::from(router.role)
-        )?;
+        println!(rt; "  last router cluster {} {}", router.cluster, router.role)?;
     }
     if let Some(link) = table.links().last() {
         let Pair { a, b } = link.ends;

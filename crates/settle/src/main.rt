@@ -2,6 +2,10 @@
 // injected, or why the table is refused.
 #![tactic(auto)]
 
+ghost use Rattle.std.specs.Prelude.{◌≡◌, ◌-◌, ◌^◌, length};
+ghost use Rattle.selection.specs.Stages.{keep_five_stage};
+ghost use Rattle.tables.specs.Accepted.{declared};
+
 use distances::Distances;
 use faults::{Fault, LoadFault};
 use forwarding::{best, metric};
@@ -22,9 +26,16 @@ fn line(rt: &impl Print, distances: &Distances, router: u32, set: PathSet) -> an
     Ok(())
 }
 
-// A line a router, where all advertise what the five-stage rule keeps of all paths.
+// What the five-stage rule keeps of all paths.
+fn kept_of_all(table: &Table) -> PathSet
+    ensures { result ≡ keep_five_stage (declared table.now).paths (2 ^ length (declared table.now).paths - 1) }
+{
+    advertised(&FiveStage, table.paths(), PathSet::first(u64::BITS))
+}
+
+// A line a router, where all advertise that.
 fn list(rt: &impl Print, table: Table) -> anyhow::Result<()> {
-    let kept = advertised(&FiveStage, table.paths(), PathSet::first(u64::BITS));
+    let kept = kept_of_all(&table);
     let distances = Distances::of(table);
     for router in 0..distances.table().routers().len() {
         line(rt, &distances, router as u32, kept)?;
