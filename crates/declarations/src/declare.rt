@@ -1,13 +1,15 @@
-ghost use Rattle.std.specs.Prelude.{◌≡◌, ◌&&◌, [], ◌∷◌, ◌++◌, length, map, OnOk, OnErr, nat_lt};
+ghost use Rattle.std.specs.Prelude.{◌≡◌, ◌&&◌, [], List, ◌∷◌, ◌++◌, length, IsTrue, OnOk, OnErr, nat_lt};
 ghost use Rattle.layout.specs.Checks.{declaring, clients_of_one};
 ghost use Rattle.layout.specs.Table.{nothing};
+ghost use Rattle.layout.specs.declared.link.Pair.{Pair};
 ghost use Rattle.records.specs.Readings.{kind_in, body_in};
 ghost use Rattle.records.specs.declared.kind.Kind.TheVariants.{Router as router_kind, Link as link_kind, Session as session_kind, Path as path_kind};
 ghost use Rattle.declarations.specs.Held.{declared_in, fitting, joining, outcome, Declares};
+ghost use Rattle.declarations.specs.Joined.{PairFits, Recalls};
 
 use crate::declarations::Declarations;
+use crate::joined::Joined;
 use crate::numbers::four_bytes;
-use crate::pairs::{Joins, repeated};
 use arrays::ArrayVec;
 use faults::TableFault;
 use layout::{ExitPath, Link, Pair, Role, Router, Session};
@@ -49,12 +51,15 @@ impl Declarations {
             links: ArrayVec::new(Link::default()),
             sessions: ArrayVec::new(Session::default()),
             paths: ArrayVec::new(ExitPath::default()),
+            linked: Joined::new(),
+            in_session: Joined::new(),
         }
     }
 
     // Whether both routers are declared.
     fn declares(&self, pair: Pair) -> bool
-        ensures { result ≡ (nat_lt pair.a (length (declared_in self.now).routers) && nat_lt pair.b (length (declared_in self.now).routers)) }
+        ensures value { result ≡ (nat_lt pair.a (length (declared_in self.now).routers) && nat_lt pair.b (length (declared_in self.now).routers)) }
+        ensures fits { IsTrue result → PairFits pair }
     {
         let count = self.routers.len();
         (pair.a as usize) < count && (pair.b as usize) < count
@@ -72,20 +77,16 @@ impl Declarations {
         one.role.is_client() && other.role.is_client() && one.cluster == other.cluster
     }
 
-    // Whether a record may join two routers: both are declared, they differ, and none of the earlier ones of its kind
-    // joins them.
-    fn check_ends<T: Joins>(
-        &self,
-        place: usize,
-        ends: Pair,
-        earlier: &[T],
-    ) -> Result<(), TableFault>
-        ensures { result ≡ joining (declared_in self.now) place ends (map T.Joins.ends earlier.now) }
+    // Whether a record may join two routers: both are declared, they differ, and none of the earlier ones of its kind,
+    // whose pairs `joined` holds, joins them.
+    fn check_ends(&self, place: usize, ends: Pair, joined: &Joined) -> Result<(), TableFault>
+        ensures value { (earlier : List Pair) → Recalls joined.now earlier → result ≡ joining (declared_in self.now) place ends earlier }
+        ensures fits { OnOk result (PairFits ends) }
     {
         if !self.declares(ends) {
             return Err(TableFault::OutOfRange(place));
         }
-        if ends.a == ends.b || repeated(ends, earlier) {
+        if ends.a == ends.b || joined.joins(ends) {
             return Err(TableFault::BadPair(place));
         }
         Ok(())
@@ -114,8 +115,10 @@ impl Declarations {
         if metric == 0 {
             return Err(TableFault::OutOfRange(place));
         }
-        self.check_ends(place, ends, self.links.as_slice())?;
-        add(&mut self.links, place, Link { ends, metric })
+        self.check_ends(place, ends, &self.linked)?;
+        add(&mut self.links, place, Link { ends, metric })?;
+        self.linked.join(ends);
+        Ok(())
     }
 
     fn session(&mut self, place: usize, body: &[u8; 2]) -> Result<(), TableFault>
@@ -124,11 +127,13 @@ impl Declarations {
         check_room(&self.sessions, place)?;
         let [a, b] = *body;
         let ends = Pair { a, b };
-        self.check_ends(place, ends, self.sessions.as_slice())?;
+        self.check_ends(place, ends, &self.in_session)?;
         if !self.clients_of_one(ends) {
             return Err(TableFault::BadSession(place));
         }
-        add(&mut self.sessions, place, Session { ends })
+        add(&mut self.sessions, place, Session { ends })?;
+        self.in_session.join(ends);
+        Ok(())
     }
 
     fn path(&mut self, place: usize, body: &[u8; 20]) -> Result<(), TableFault>

@@ -3,7 +3,7 @@
 
 mod declarations;
 mod declare;
+mod joined;
 mod numbers;
-mod pairs;
 
 pub use declarations::Declarations;
