@@ -1,10 +1,14 @@
 use crate::fault::Fault;
 use crate::layer::Layer;
+use crate::load::LoadFault;
 use thiserror::Error;
 
-// Why a call is refused: the number at fault, or the length that is needed.
+// Why a call is refused: the fault of the table that it was handed, whole; or the number at fault, or the length that
+// is needed.
 #[derive(Clone, Copy, Debug, PartialEq, Eq, Error)]
 pub enum CallFault {
+    #[error(transparent)]
+    Load(LoadFault),
     // No path has this number.
     #[error("path {0} is not declared")]
     UndeclaredPath(u32),
@@ -14,6 +18,17 @@ pub enum CallFault {
     // The buffer is shorter than this.
     #[error("the buffer is shorter than {0} bytes")]
     ShortBuffer(usize),
+}
+
+impl From<LoadFault> for CallFault {
+    ghost use Rattle.std.specs.Prelude.{◌≡◌};
+    ghost use Rattle.faults.specs.declared.call.CallFault.TheVariants.{Load};
+
+    ghost from_gives = { λ fault whole. whole ≡ Load fault };
+
+    fn from(fault: LoadFault) -> CallFault {
+        CallFault::Load(fault)
+    }
 }
 
 impl Fault for CallFault {
@@ -27,6 +42,7 @@ impl Fault for CallFault {
 
     fn number(self) -> u8 {
         match self {
+            CallFault::Load(fault) => fault.number(),
             CallFault::UndeclaredPath(_) => 11,
             CallFault::UndeclaredRouter(_) => 12,
             CallFault::ShortBuffer(_) => 16,
@@ -34,11 +50,17 @@ impl Fault for CallFault {
     }
 
     fn layer(self) -> Layer {
-        Layer::Call
+        match self {
+            CallFault::Load(fault) => fault.layer(),
+            CallFault::UndeclaredPath(_)
+            | CallFault::UndeclaredRouter(_)
+            | CallFault::ShortBuffer(_) => Layer::Call,
+        }
     }
 
     fn place(self) -> usize {
         match self {
+            CallFault::Load(fault) => fault.place(),
             CallFault::UndeclaredPath(path) => path as usize,
             CallFault::UndeclaredRouter(router) => router as usize,
             CallFault::ShortBuffer(needed) => needed,

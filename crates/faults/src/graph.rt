@@ -11,8 +11,8 @@ pub enum GraphFault {
     // A client's cluster has no reflector: the lowest such client.
     #[error("byte {0}: the cluster of this client has no reflector")]
     NoReflector(usize),
-    // The links do not join a router to router 0: the lowest such router.
-    #[error("byte {0}: the links do not join this router to router 0")]
+    // No chain of links joins a router to router 0: the lowest such router.
+    #[error("byte {0}: no chain of links joins this router to router 0")]
     NotJoined(usize),
 }
 

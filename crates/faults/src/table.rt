@@ -8,8 +8,8 @@ pub enum TableFault {
     // It is one more than the most of its kind.
     #[error("byte {0}: the record is one more than the most of its kind")]
     TooMany(usize),
-    // A field is out of range or names a router that is not declared.
-    #[error("byte {0}: a field of the record is out of range or names a router that is not declared")]
+    // A field is out of range or names a router that no earlier record declares.
+    #[error("byte {0}: a field of the record is out of range or names a router that no earlier record declares")]
     OutOfRange(usize),
     // A link or a session joins a router to itself, or the two routers of an earlier one of its kind.
     #[error("byte {0}: the record joins a router to itself, or two routers that an earlier one of its kind joins")]
