@@ -1,4 +1,4 @@
 mod Rows
-mod Offers
+mod Ranks
 mod LowestHop
 mod Traced

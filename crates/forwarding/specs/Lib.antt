@@ -1,2 +1,2 @@
-pub mod Offers
+pub mod Ranks
 pub mod Answers

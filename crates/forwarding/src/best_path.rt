@@ -2,7 +2,7 @@ ghost use Rattle.std.specs.Prelude.{◌≡◌, ◌+◌, ◌*◌, ◌^◌, ◌<�
 ghost use Rattle.costs.specs.Cost.{plain};
 ghost use Rattle.distances.specs.Answered.{declared_by};
 ghost use Rattle.forwarding.specs.Answers.{best_answer, metric_answer};
-ghost use Rattle.forwarding.specs.Offers.{offer_of};
+ghost use Rattle.forwarding.specs.Ranks.{rank_of};
 ghost use Rattle.packets.specs.BestPlain.{BestIs};
 
 use distances::Distances;
@@ -19,31 +19,17 @@ fn metric_over(row: &[u32], path: ExitPath) -> u32
     row[path.exit_point as usize] + path.exit_cost as u32
 }
 
-// What decides between paths at a router, in this order: the router's own exits come first, then the nearer,
-// then the lower speaker, then the lower number.
-#[derive(Clone, Copy, PartialEq, Eq, PartialOrd, Ord)]
-struct Offer {
-    elsewhere: bool,
-    metric: u32,
-    speaker: u32,
-    path: u8,
-}
-
-impl Offer {
-    // Path `p` at a router, by the distances from that router.
-    fn new(router: u32, row: &[u32], p: usize, path: ExitPath) -> Self
-        requires numbered { p < 64 }
-        requires in_row { path.exit_point < length row.now }
-        requires near { slice_index row.now path.exit_point + path.exit_cost < 2 ^ 32 }
-        ensures { result ≡ offer_of router row.now p path }
-    {
-        Offer {
-            elsewhere: path.exit_point as u32 != router,
-            metric: metric_over(row, path),
-            speaker: path.speaker,
-            path: p as u8,
-        }
-    }
+// Where a path stands at a router, the best the lowest: the router's own exits come before any other, then the nearer,
+// then the lower speaker. One number holds all three, so that one comparison decides.
+fn rank(router: u32, row: &[u32], path: ExitPath) -> u64
+    requires in_row { path.exit_point < length row.now }
+    requires near { slice_index row.now path.exit_point + path.exit_cost < 2 ^ 31 }
+    ensures value { result ≡ rank_of router row.now path }
+    ensures narrow { path.speaker < 2 ^ 32 }
+{
+    let elsewhere = u64::from(path.exit_point as u32 != router);
+    let metric = u64::from(metric_over(row, path));
+    (elsewhere << 63) + (metric << 32) + u64::from(path.speaker)
 }
 
 // The best path of a router of a set: if some of the set leave at the router itself only those count; the
@@ -55,12 +41,20 @@ pub fn best(distances: &Distances, router: u32, set: PathSet) -> Result<Option<u
 {
     let row = distances.row(router)?;
     let paths = distances.table().paths();
-    let offers = paths
-        .iter()
-        .enumerate()
-        .filter(|(p, _)| set.contains(*p as u32))
-        .map(|(p, path)| Offer::new(router, row, p, *path));
-    Ok(offers.min().map(|offer| offer.path))
+    let mut first = None;
+    // No rank reaches the largest number, so the first path needs no case of its own.
+    let mut lowest = u64::MAX;
+    // The lower numbers come before the higher, so of equal ranks the first one stays.
+    for p in set {
+        if let Some(path) = paths.get(p as usize) {
+            let rank = rank(router, row, *path);
+            if rank < lowest {
+                lowest = rank;
+                first = Some(p as u8);
+            }
+        }
+    }
+    Ok(first)
 }
 
 // The metric of a path at a router: the distance to its exit point and then its exit cost.

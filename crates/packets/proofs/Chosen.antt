@@ -1,7 +1,7 @@
 -- The first of the numbers below n that no other beats. Assumes nothing.
-use Rattle.std.proofs.Common.{◌≡◌, ℕ, zero, suc, ◌<◌, Bool, true, false, cond, Some, None, Option, sym, subst, ⊎_elim, arith}
+use Rattle.std.proofs.Common.{◌≡◌, ℕ, zero, suc, ◌<◌, ◌≤◌, Bool, true, false, cond, Some, None, Option, sym, ap, ◌∙◌, subst, ⊎_elim, arith}
 use Rattle.std.specs.Cmp.{IsStrictWeakOrder}
-use Rattle.std.proofs.lemmas.Bool.{both_ways, cases_Bool, cases_eq}
+use Rattle.std.proofs.lemmas.Bool.{both_ways, cases_Bool, cases_eq, cond-false}
 use Rattle.packets.specs.Best.{the_better, best_below}
 
 module _ (beats : ℕ → ℕ → Bool) (asked : ℕ → Bool) where
@@ -9,6 +9,16 @@ module _ (beats : ℕ → ℕ → Bool) (asked : ℕ → Bool) where
   abbrev pub Chosen : ℕ → Option ℕ → Type 0
   Chosen n None = (q : ℕ) → q < n → asked q ≡ true → ⊥
   Chosen n (Some p) = (p < n) × (asked p ≡ true) × ((q : ℕ) → q < n → asked q ≡ true → beats q p ≡ false) × ((q : ℕ) → q < p → asked q ≡ true → beats p q ≡ true)
+
+  -- where none of the numbers from m to n is asked about, the best below n is the best below m
+  pub best_unasked : (m n : ℕ) → m ≤ n → ((k : ℕ) → m ≤ k → k < n → asked k ≡ false) → best_below beats asked n ≡ best_below beats asked m
+  unfolding best_below
+  best_unasked m zero le none = let here : 0 ≡ m = omega (arith, le) in ap (best_below beats asked) here
+  best_unasked m (suc n) le none =
+      ⊎_elim
+      (λ e. ap (best_below beats asked) (sym e))
+      (λ ne. cond-false (asked n) _ _ (none n (omega arith) (omega arith)) ∙ best_unasked m n (omega arith) (λ k from lt. none k from (omega arith)))
+      (cases_eq m (suc n))
 
 module _ (beats : ℕ → ℕ → Bool) (asked : ℕ → Bool) (ranks : IsStrictWeakOrder beats) where
   itself : (p : ℕ) → beats p p ≡ false

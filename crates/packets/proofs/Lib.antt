@@ -1,4 +1,5 @@
 pub mod Chosen
+pub mod Passed
 pub mod Taking
 pub mod BestPaths
 pub mod NextHops
