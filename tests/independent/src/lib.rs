@@ -1,0 +1,21 @@
+//! The pages of docs/ once more, in plain Rust: written from the pages alone and sharing no code
+//! with the library, so that the two can be compared.
+
+pub mod case;
+pub mod cases;
+pub mod counts;
+pub mod damage;
+pub mod direct;
+pub mod distances;
+pub mod encode;
+pub mod forwarding;
+pub mod laws;
+pub mod lines;
+pub mod nearest;
+pub mod program;
+pub mod random;
+pub mod rules;
+pub mod sets;
+pub mod table;
+pub mod tables;
+pub mod ways;
