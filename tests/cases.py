@@ -1,5 +1,5 @@
 #!/usr/bin/env python3
-"""The tables, sets and ways that the program `cases` plays, each with what it must come to.
+"""The tables, sets, ways and calls that the program `cases` plays, each with what it must come to.
 
   tests/cases.py          holds crates/cases/stdin and crates/cases/stdout to this list
   tests/cases.py --write  writes both files from it
@@ -7,7 +7,7 @@
 What a table comes to is written here by hand, from docs/FORMAT.md and docs/REFUSALS.md: a refusal
 by its number and place, or the counts of what an accepted table declares and the last of each kind.
 What each rule keeps of a set is written here by hand too, from docs/RULES.md, and where each router
-sends its traffic from docs/PROTOCOL.md.
+sends its traffic and what calls on a network answer and alter from docs/PROTOCOL.md.
 """
 import itertools
 import struct
@@ -15,7 +15,7 @@ import sys
 from pathlib import Path
 
 ROOT = Path(__file__).resolve().parent.parent / "crates" / "cases"
-PROVED = 14
+PROVED = 23
 
 CLIENT, REFLECTOR = 0, 1
 CASES = []
@@ -94,6 +94,37 @@ def ways(name, records, asked, *routers):
     ]
     word = sum(1 << p for p in asked)
     CASES.append((name, f"{spell(records)} > {word:016X}", "".join(f"\n  {line}" for line in lines)))
+
+
+def braces(numbers):
+    return "{" + " ".join(map(str, numbers)) + "}"
+
+
+def network(name, records, *calls, rests=None, loads=True):
+    """Calls on a network, each with its answer, the routers that advertise another set than before, with that set, and
+    whether every router then advertises exactly what the five-stage rule keeps of all injected paths. Where the network
+    ends settled and not reopened, it rests with a best path and its metric for each router, or None; and then what is
+    refused behind the last router and of short buffers. `misload` loads the bytes of the table without the last one."""
+    count = sum(r[0] == 1 for r in records)
+    lines = []
+    for call, answer, *then in calls:
+        if answer == "out of place":
+            lines.append(f"{call}: {answer}")
+        else:
+            sets, settled = then
+            altered = ", ".join(f"R{v} {braces(numbers)}" for v, numbers in sets.items())
+            lines.append(f"{call}: {answer}; {altered or 'nothing altered'}; {'' if settled else 'not '}settled")
+    if rests is not None:
+        lines += [f"R{v} - -" if found is None else "R{} P{} {}".format(v, *found) for v, found in enumerate(rests)]
+    lines.append(f"best 12 at {count}")
+    if rests is not None:
+        lines += [
+            f"trace from a router into 31 bytes 12 at {count}",
+            "trace into 31 bytes " + ("16 at 32" if loads else "12 at 0"),
+            "list into 511 bytes 16 at 512",
+        ]
+    script = ", ".join(call for call, *_ in calls)
+    CASES.append((name, f"{spell(records)} ! {script}", "".join(f"\n  {line}" for line in lines)))
 
 
 # one reflector and its client, joined
@@ -306,6 +337,84 @@ ways("of 64 paths the last", [router(0, REFLECTOR)] + [path(0, exit_cost=99 - p)
 # a packet leaves at a router on the way that has an exit of its own, whatever its first router reckoned
 ways("a packet that leaves early", [*CROWD[:3], link(0, 1, 1), link(1, 2, 1), path(2), path(1, exit_cost=100)], [0, 1], (0, 2, [0, 1], 1), (1, 100, [1], 1), (0, 0, [2], 0))
 
+# calls on networks, behind all other lines: the worked table's runs, settles, and loses a path
+LOADED = ("load", "done", {}, True)
+INJECTED = [LOADED, ("inject 0", "done", {1: [0]}, False), ("inject 1", "done", {3: [1]}, False), ("inject 2", "done", {1: [0, 2]}, False)]
+ONE_STEP = [*INJECTED, ("step 0", "done", {0: [0, 2]}, False)]
+TWO_STEPS = [*ONE_STEP, ("step 0 2", "done", {2: [1, 2]}, False)]
+SETTLED = [*TWO_STEPS, ("settle", "done", {0: [1, 2], 1: [1, 2], 3: [1, 2]}, True)]
+REOPENED = [*SETTLED, ("reopen", "done", {}, True)]
+LOST = [*REOPENED, ("withdraw 1", "done", {3: [2]}, False)]
+
+
+def bests(settled, *answers):
+    return [(f"best {v}", answer, {}, settled) for v, answer in enumerate(answers)]
+
+
+def traces(*answers):
+    return [(f"trace {v}", answer, {}, True) for v, answer in enumerate(answers)]
+
+
+network("a network before any step", WORKED, *INJECTED, *bests(False, "none", "P0", "none", "P1"))
+network("a step of router 0", WORKED, *ONE_STEP, *bests(False, "P0", "P0", "none", "P1"))
+network("a step of routers 0 and 2", WORKED, *TWO_STEPS, *bests(False, "P0", "P0", "P1", "P1"))
+network("a network that settles", WORKED, *SETTLED, *bests(True, "P1", "P2", "P1", "P1"),
+        *traces("meets 0 2 3 leaves P1", "meets 1 leaves P2", "meets 2 3 leaves P1", "meets 3 leaves P1"),
+        rests=[(1, 5), (2, 3), (1, 4), (1, 0)])
+network("a path is withdrawn", WORKED, *LOST, *bests(False, "P1", "P2", "P1", "P2"))
+network("a network that settles without it", WORKED, *LOST,
+        ("settle", "done", {0: [0, 2], 1: [0, 2], 2: [0, 2], 3: [0, 2]}, True), *bests(True, "P0", "P0", "P0", "P0"),
+        *traces("meets 0 1 leaves P0", "meets 1 leaves P0", "meets 2 0 1 leaves P0", "meets 3 2 0 1 leaves P0"),
+        rests=[(0, 10), (0, 0), (0, 11), (0, 15)])
+# the routers of a step read their peers as they stood before it, and a router that is not named stays as it is
+network("steps of all at once", WORKED, *INJECTED, ("step 0 1 2 3", "done", {0: [0, 2], 2: [1]}, False),
+        ("step 3 2 1 0", "done", {0: [1, 2], 2: [1, 2]}, False), ("step 0 1 2 3", "done", {1: [1, 2], 3: [1, 2]}, True),
+        ("step 0 1 2 3", "done", {}, True))
+# a router that is restarted tells nobody
+network("routers restart", WORKED, *REOPENED, ("restart 0", "done", {0: []}, False), *bests(False, "none", "P2", "P1", "P1"),
+        ("step 1 2 3", "done", {1: [0, 2], 2: [1]}, False), ("step 0", "done", {0: [1, 2]}, False),
+        ("restart 1", "done", {}, False), ("step 1 2", "done", {1: [1, 2], 2: [1, 2]}, True), ("step 3", "done", {}, True),
+        ("restart 3", "done", {3: [1]}, False), ("settle", "done", {3: [1, 2]}, True), rests=[(1, 5), (2, 3), (1, 4), (1, 0)])
+
+# every refusal of a call, and a refused call alters nothing
+network("calls before a table is loaded", WORKED, ("inject 0", "11 at 0", {}, True), ("withdraw 0", "11 at 0", {}, True),
+        ("restart 0", "12 at 0", {}, True), ("step", "13 at 0", {}, True), ("step 0", "12 at 0", {}, True), ("step 31", "12 at 31", {}, True),
+        ("best 0", "12 at 0", {}, True), ("misload", "2 at 69", {}, True), ("settle", "done", {}, True), ("trace 0", "12 at 0", {}, True),
+        rests=[], loads=False)
+network("calls that are refused", WORKED, *TWO_STEPS, ("inject 0", "14 at 0", {}, False), ("inject 3", "11 at 3", {}, False),
+        ("inject 64", "11 at 64", {}, False), (f"inject {TOP}", f"11 at {TOP}", {}, False), ("withdraw 3", "11 at 3", {}, False),
+        ("withdraw 1", "done", {3: []}, False), ("withdraw 1", "15 at 1", {}, False), (f"withdraw {TOP}", f"11 at {TOP}", {}, False),
+        ("restart 4", "12 at 4", {}, False), (f"restart {TOP}", f"12 at {TOP}", {}, False), ("step", "13 at 0", {}, False),
+        ("step 4", "12 at 4", {}, False), ("step 31 0 7 5", "12 at 5", {}, False), ("best 4", "12 at 4", {}, False),
+        (f"best {TOP}", f"12 at {TOP}", {}, False), ("misload", "2 at 69", {}, False), ("inject 1", "done", {3: [1]}, False))
+network("a path is injected once more", WORKED, *LOST, ("inject 1", "done", {3: [1, 2]}, True))
+network("a table is loaded again", WORKED, *REOPENED, ("load", "done", {0: [], 1: [], 2: [], 3: []}, True), ("inject 1", "done", {3: [1]}, False))
+network("a packet where nothing is injected", WORKED, LOADED, ("settle", "done", {}, True), *bests(True, *["none"] * 4), *traces(*["none"] * 4),
+        ("trace 4", "12 at 4", {}, True), (f"trace {TOP}", f"12 at {TOP}", {}, True), rests=[None] * 4)
+# calls that a network does not offer
+network("a trace on a running network", WORKED, *INJECTED, ("trace 0", "out of place"))
+network("a reopening of a running network", WORKED, *REOPENED, ("reopen", "out of place"))
+for call in "load", "inject 0", "withdraw 0", "restart 0", "step 0", "settle":
+    network(f"{call} on a settled network", WORKED, *SETTLED, (call, "out of place"), rests=[(1, 5), (2, 3), (1, 4), (1, 0)])
+# two reflectors of one cluster pass to each other only the paths that leave at the sender
+TWINS = [router(0, REFLECTOR), router(0, REFLECTOR), router(0, CLIENT), link(0, 1, 3), link(0, 2, 4), path(2), path(1)]
+network("two reflectors of one cluster", TWINS, LOADED, ("inject 0", "done", {2: [0]}, False), ("step 0", "done", {0: [0]}, False),
+        ("inject 1", "done", {1: [1]}, False), ("step 0 1", "done", {0: [0, 1], 1: [0, 1]}, False), ("step 2", "done", {2: [0, 1]}, True),
+        ("settle", "done", {}, True), rests=[(1, 3), (1, 0), (0, 0)])
+network("a twin does not reflect to the other", TWINS, LOADED, ("inject 0", "done", {2: [0]}, False), ("step 0", "done", {0: [0]}, False),
+        ("withdraw 0", "done", {2: []}, False), ("step 1", "done", {}, False), ("step 0", "done", {0: []}, True))
+# a client session, whichever of the two it names first
+CLIENTS = [router(0, REFLECTOR), router(0, CLIENT), router(0, CLIENT), link(0, 1), link(0, 2), session(2, 1), path(1), path(2)]
+network("two clients in a session", CLIENTS, LOADED, ("inject 0", "done", {1: [0]}, False), ("inject 1", "done", {2: [1]}, False),
+        ("step 1", "done", {1: [0, 1]}, False), ("step 2", "done", {2: [0, 1]}, False), ("step 0", "done", {0: [0, 1]}, True))
+# the limits: 32 routers, and all 64 paths, of which the rule keeps each
+# routers 1 and 2 hear of every path at once, by their sessions with all other clients
+HEARD = {v: {0, v} | {u for talk in TALKS for u in talk[1:] if v in talk[1:]} for v in range(1, 32)}
+network("every path of the longest table", FULL, LOADED, *[(f"inject {p}", "done", {p % 32: range(p % 32, p + 1, 32)}, False) for p in ALL],
+        ("step " + " ".join(map(str, range(32))), "done", {0: ALL, **{v: sorted(p for p in ALL if p % 32 in HEARD[v]) for v in HEARD}}, False),
+        ("settle", "done", {v: ALL for v in range(3, 32)}, True), ("best 31", "P31", {}, True),
+        ("trace 31", "meets 31 leaves P31", {}, True), rests=[(v, 0) for v in range(32)])
+
 
 def texts():
     stdin = "".join(f"{name}:{given}\n" for name, given, _ in CASES)
@@ -324,4 +433,5 @@ def main():
     print(f"{len(CASES)} lines for the program `cases`")
 
 
-main()
+if __name__ == "__main__":
+    main()

@@ -1,5 +1,5 @@
 #!/usr/bin/env python3
-"""The README shows what the program and the host in C print for their examples."""
+"""The README shows what the programs and the host in C print for their examples."""
 import sys
 import textwrap
 from pathlib import Path
@@ -15,4 +15,7 @@ transcript = (ROOT / "examples" / "host.out").read_text().split("$ ")
 printed = next(part.removeprefix(COMMAND) for part in transcript if part.startswith(COMMAND))
 if textwrap.indent("$ /tmp/host examples/two-clusters.table 0 2\n" + printed, "    ") not in readme:
     sys.exit("README.md does not show what examples/host.out has")
-print("README.md shows what the program and the host in C print for their examples")
+replayed = (ROOT / "examples" / "oscillation.replayed").read_text()
+if textwrap.indent(replayed, "    ") not in readme:
+    sys.exit("README.md does not show what examples/oscillation.replayed has")
+print("README.md shows what the programs and the host in C print for their examples")

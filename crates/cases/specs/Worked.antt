@@ -1,6 +1,9 @@
 -- The worked cases that are proved: one list, and what it is for a case to hold. Assumes nothing.
-use Rattle.std.specs.Prelude.{◌≡◌, ℕ, ◌^◌, List, [], ◌∷◌, length, map, Some, None, Ok, Err, Option, Result, bit_or}
+use Rattle.std.specs.Prelude.{◌≡◌, ℕ, ◌^◌, List, [], ◌∷◌, ◌++◌, length, map, take, Some, None, Ok, Err, Option, Result, bit_or}
 use Rattle.std.specs.List.{range_with_len}
+use Rattle.calls.specs.Turns.{after_call}
+use Rattle.calls.specs.declared.call.Call.{Call}
+use Rattle.calls.specs.declared.call.Call.TheVariants.{Inject, Withdraw, Step, Settle, Reopen}
 use Rattle.costs.specs.Cost.{plain}
 use Rattle.faults.specs.Faults.{number_of, place_of}
 use Rattle.faults.specs.declared.load.LoadFault.{LoadFault}
@@ -8,6 +11,9 @@ use Rattle.layout.specs.Reading.{table_in}
 use Rattle.layout.specs.Table.{Declared}
 use Rattle.packets.specs.Best.{best, metric}
 use Rattle.packets.specs.Ways.{way}
+use Rattle.protocol.specs.Moves.{loaded}
+use Rattle.protocol.specs.Network.{State}
+use Rattle.protocol.specs.Packets.{best_of, way_of}
 use Rattle.selection.specs.Laws.{Keeping, Laws, declared_of}
 use Rattle.selection.specs.Stages.{keep_compare_always, keep_five_stage}
 
@@ -22,6 +28,14 @@ pub data Case : Type 0 where
   takes : List ℕ → List ℕ → List ℕ → Case
   -- a packet from a router, where all take their best of these paths, meets these routers and leaves by this path
   meets : List ℕ → ℕ → List ℕ → ℕ → Case
+  -- after these calls on the network of the worked table, in which all paths were injected, the routers know these paths, one set each
+  knows : List Call → List (List ℕ) → Case
+  -- and then they advertise these
+  advertises : List Call → List (List ℕ) → Case
+  -- and then they take these best paths of what they advertise, one each, with these metrics
+  picks : List Call → List (Option (ℕ × ℕ)) → Case
+  -- and then a packet from a router meets these routers and leaves by this path
+  sends : List Call → ℕ → List ℕ → ℕ → Case
 
 -- two reflectors with one client each, and three exit paths: of each record the kind, and then the body
 abbrev pub worked_table : List ℕ
@@ -72,6 +86,24 @@ best_metric t v (Some p) = Some (metric plain t v p)
 abbrev pub best_metrics : Declared → ℕ → List (Option ℕ)
 best_metrics t s = map (λ v. best_metric t v (best plain t s v)) (range_with_len 0 (length t.routers))
 
+-- the network after one call after another
+abbrev pub after_calls : State → List Call → State
+after_calls s [] = s
+after_calls s (c ∷ cs) = after_calls (after_call keep_five_stage s c) cs
+
+-- the network of a table, after these calls behind the injections of its three paths
+abbrev pub network_after : List Call → Declared → State
+network_after calls t = after_calls (loaded t) (Inject 0 ∷ Inject 1 ∷ Inject 2 ∷ calls)
+
+-- a path with its metric at router v
+abbrev pub with_metric : Declared → ℕ → Option ℕ → Option (ℕ × ℕ)
+with_metric t v None = None
+with_metric t v (Some p) = Some (p, metric plain t v p)
+
+-- the best path of each router of what it advertises, with its metric there
+abbrev pub choices : State → List (Option (ℕ × ℕ))
+choices s = map (λ v. with_metric s.table v (best_of s v)) (range_with_len 0 (length s.table.routers))
+
 -- something is so of the worked table
 abbrev pub OfWorked : (Declared → Type 0) → Result Declared LoadFault → Type 0
 OfWorked P (Ok t) = P t
@@ -83,6 +115,26 @@ Holds (keeps kept given answer) = OfWorked (λ t. kept_of kept t (set_of given) 
 Holds (breaks kept) = OfWorked (λ t. Laws (kept t) → ⊥) (table_in worked_table)
 Holds (takes given paths metrics) = OfWorked (λ t. (best_paths t (set_of given) ≡ map Some paths) × (best_metrics t (set_of given) ≡ map Some metrics)) (table_in worked_table)
 Holds (meets given from met path) = OfWorked (λ t. way plain t (set_of given) from ≡ Some (met, path)) (table_in worked_table)
+Holds (knows calls sets) = OfWorked (λ t. take (length t.routers) (network_after calls t).known ≡ map set_of sets) (table_in worked_table)
+Holds (advertises calls sets) = OfWorked (λ t. take (length t.routers) (network_after calls t).advertised ≡ map set_of sets) (table_in worked_table)
+Holds (picks calls found) = OfWorked (λ t. choices (network_after calls t) ≡ found) (table_in worked_table)
+Holds (sends calls from met path) = OfWorked (λ t. way_of (network_after calls t) from ≡ Some (met, path)) (table_in worked_table)
+
+-- a step of router 0
+abbrev pub one_step : List Call
+one_step = Step (set_of (0 ∷ [])) ∷ []
+
+-- and then one of routers 0 and 2
+abbrev pub two_steps : List Call
+two_steps = one_step ++ (Step (set_of (0 ∷ 2 ∷ [])) ∷ [])
+
+-- and then the network settles
+abbrev pub settled_once : List Call
+settled_once = two_steps ++ (Settle ∷ [])
+
+-- and then path 1 is withdrawn, and it settles again
+abbrev pub settled_again : List Call
+settled_again = settled_once ++ (Reopen ∷ Withdraw 1 ∷ Settle ∷ [])
 
 abbrev pub worked : List Case
 worked =
@@ -100,4 +152,13 @@ worked =
     ∷ keeps (keep_best 1) (0 ∷ 1 ∷ 2 ∷ []) (2 ∷ [])
     ∷ keeps (keep_best 1) (0 ∷ 2 ∷ []) (0 ∷ [])
     ∷ breaks (keep_best 1)
+    ∷ knows one_step ((0 ∷ 2 ∷ []) ∷ (0 ∷ 2 ∷ []) ∷ [] ∷ (1 ∷ []) ∷ [])
+    ∷ picks one_step (Some (0, 10) ∷ Some (0, 0) ∷ None ∷ Some (1, 0) ∷ [])
+    ∷ knows two_steps ((0 ∷ 2 ∷ []) ∷ (0 ∷ 2 ∷ []) ∷ (0 ∷ 1 ∷ 2 ∷ []) ∷ (1 ∷ []) ∷ [])
+    ∷ advertises two_steps ((0 ∷ 2 ∷ []) ∷ (0 ∷ 2 ∷ []) ∷ (1 ∷ 2 ∷ []) ∷ (1 ∷ []) ∷ [])
+    ∷ advertises settled_once ((1 ∷ 2 ∷ []) ∷ (1 ∷ 2 ∷ []) ∷ (1 ∷ 2 ∷ []) ∷ (1 ∷ 2 ∷ []) ∷ [])
+    ∷ picks settled_once (Some (1, 5) ∷ Some (2, 3) ∷ Some (1, 4) ∷ Some (1, 0) ∷ [])
+    ∷ sends settled_once 0 (0 ∷ 2 ∷ 3 ∷ []) 1
+    ∷ advertises settled_again ((0 ∷ 2 ∷ []) ∷ (0 ∷ 2 ∷ []) ∷ (0 ∷ 2 ∷ []) ∷ (0 ∷ 2 ∷ []) ∷ [])
+    ∷ picks settled_again (Some (0, 10) ∷ Some (0, 0) ∷ Some (0, 11) ∷ Some (0, 15) ∷ [])
     ∷ []

@@ -1,12 +1,16 @@
 // Plays tables written in hexadecimal, a line each, and prints what each comes to; of a line with a set
-// of paths behind the table, what each rule keeps of the set, or where each router sends its traffic.
+// of paths behind the table, what each rule keeps of the set, or where each router sends its traffic; of a
+// line with calls behind it, what each call answers on a network.
 #![tactic(auto)]
 
 ghost use Rattle.std.specs.Prelude.{◌≡◌, length, All};
 ghost use Rattle.cases.specs.Worked.{Holds, worked};
 
+mod runs;
+mod script;
 mod ways;
 
+use crate::runs::runs;
 use crate::ways::ways;
 use anyhow::Context;
 use faults::Fault;
@@ -21,7 +25,7 @@ fn worked_cases() -> usize
     ensures hold { All Holds worked }
     ensures count { result ≡ length worked }
 {
-    14
+    23
 }
 
 // The value of a hexadecimal digit in upper case; `to_digit` would take lower case too.
@@ -109,13 +113,15 @@ fn keep<R: Rule>(
 
 // What is asked of a table.
 #[derive(Clone, Copy)]
-enum Asked {
+enum Asked<'a> {
     // What it declares.
     Records,
     // What each rule keeps of a set.
     Rules(PathSet),
     // Where each router sends its traffic, of a set.
     Ways(PathSet),
+    // What each of these calls answers on a network.
+    Calls(&'a str),
 }
 
 // How many of each kind a table declares, and the last of each.
@@ -137,7 +143,7 @@ fn keeps(rt: &impl Print, paths: &[ExitPath], set: PathSet) -> anyhow::Result<()
     keep(rt, "compare-always", &CompareAlways, paths, set)
 }
 
-fn play(rt: &impl Print, name: &str, bytes: &[u8], asked: Asked) -> anyhow::Result<()> {
+fn play(rt: &HostRuntime, name: &str, bytes: &[u8], asked: Asked) -> anyhow::Result<()> {
     print!(rt; "{name}:")?;
     let table = match Table::read(bytes) {
         Ok(table) => table,
@@ -156,6 +162,10 @@ fn play(rt: &impl Print, name: &str, bytes: &[u8], asked: Asked) -> anyhow::Resu
             println!(rt; "")?;
             ways(rt, table, set)
         }
+        Asked::Calls(calls) => {
+            println!(rt; "")?;
+            runs(rt, bytes, table.routers().len() as u32, calls)
+        }
     }
 }
 
@@ -169,14 +179,16 @@ fn set(heap: Global, text: &str) -> anyhow::Result<PathSet> {
     Ok(PathSet::from(u64::from_be_bytes(*word)))
 }
 
-// A line is a name, a colon and the bytes; where rules are asked, a semicolon and a set, and where ways are
-// asked, an angle and a set.
+// A line is a name, a colon and the bytes; where rules are asked, a semicolon and a set; where ways are asked, an
+// angle and a set; and where a network is, an exclamation mark and calls with a comma between.
 fn line(rt: &HostRuntime, text: &str) -> anyhow::Result<()> {
     let (name, rest) = text.split_once(':').context("a line without a colon")?;
     let (table, asked) = if let Some((table, word)) = rest.split_once(';') {
         (table, Asked::Rules(set(rt.alloc(), word)?))
     } else if let Some((table, word)) = rest.split_once('>') {
         (table, Asked::Ways(set(rt.alloc(), word)?))
+    } else if let Some((table, calls)) = rest.split_once('!') {
+        (table, Asked::Calls(calls))
     } else {
         (rest, Asked::Records)
     };

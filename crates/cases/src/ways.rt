@@ -6,13 +6,23 @@ use sets::PathSet;
 use tables::Table;
 
 // What a buffer holds before a packet is traced; no router has this number.
-const UNWRITTEN: u8 = 238;
+pub(crate) const UNWRITTEN: u8 = 238;
 
-// Says so where a byte of a buffer behind a way was written.
-fn untouched(rt: &impl Print, behind: &[u8]) -> anyhow::Result<()> {
+// Says so where a byte of a buffer was written behind what was told.
+pub(crate) fn untouched(rt: &impl Print, behind: &[u8]) -> anyhow::Result<()> {
     if behind.iter().any(|b| *b != UNWRITTEN) {
-        println!(rt; "  a byte behind the way was written")?;
+        println!(rt; "  a byte behind what was told was written")?;
     }
+    Ok(())
+}
+
+// The routers that a packet meets, and the path by which it leaves.
+pub(crate) fn leaves(rt: &impl Print, met: &[u8], path: u8) -> anyhow::Result<()> {
+    print!(rt; " meets")?;
+    for v in met {
+        print!(rt; " {v}")?;
+    }
+    print!(rt; " leaves P{path}")?;
     Ok(())
 }
 
@@ -24,11 +34,8 @@ fn way(rt: &impl Print, distances: &Distances, router: u32, set: PathSet) -> any
         return untouched(rt, &met);
     };
     let (met, behind) = met.split_at(found.count);
-    print!(rt; " meets")?;
-    for v in met {
-        print!(rt; " {v}")?;
-    }
-    println!(rt; " leaves P{}", found.path)?;
+    leaves(rt, met, found.path)?;
+    println!(rt; "")?;
     untouched(rt, behind)
 }
 
@@ -44,7 +51,8 @@ fn router(rt: &impl Print, distances: &Distances, v: u32, set: PathSet) -> anyho
     way(rt, distances, v, set)
 }
 
-fn refused<T: Drop>(
+// What a call answered that is to be refused.
+pub(crate) fn refused<T: Drop>(
     rt: &impl Print,
     call: &str,
     answer: Result<T, CallFault>,

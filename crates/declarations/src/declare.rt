@@ -1,6 +1,7 @@
-ghost use Rattle.std.specs.Prelude.{◌≡◌, ◌&&◌, [], List, ◌∷◌, ◌++◌, length, IsTrue, OnOk, OnErr, nat_lt};
-ghost use Rattle.layout.specs.Checks.{declaring, clients_of_one};
+ghost use Rattle.std.specs.Prelude.{◌≡◌, ◌&&◌, [], List, ◌∷◌, ◌++◌, length, map, IsTrue, OnOk, OnErr, nat_lt};
+ghost use Rattle.layout.specs.Checks.{declaring, clients_of_one, repeats};
 ghost use Rattle.layout.specs.Table.{nothing};
+ghost use Rattle.layout.specs.WellFormed.{session_ends};
 ghost use Rattle.layout.specs.declared.link.Pair.{Pair};
 ghost use Rattle.records.specs.Readings.{kind_in, body_in};
 ghost use Rattle.records.specs.declared.kind.Kind.TheVariants.{Router as router_kind, Link as link_kind, Session as session_kind, Path as path_kind};
@@ -168,5 +169,12 @@ impl Declarations {
             Record::Session(body) => self.session(found.place, body),
             Record::Path(body) => self.path(found.place, body),
         }
+    }
+
+    // Whether a session joins two routers, in either order.
+    pub fn in_session(&self, pair: Pair) -> bool
+        ensures { result ≡ (nat_lt pair.a 32 && (nat_lt pair.b 32 && repeats pair (map session_ends (declared_in self.now).sessions))) }
+    {
+        pair.a < 32 && pair.b < 32 && self.in_session.joins(pair)
     }
 }

@@ -27,9 +27,10 @@ use Rattle.selection.proofs.PlainTerms.{five_stage_plain}
 use Rattle.selection.proofs.RuleLaws.{five_stage_laws}
 use Rattle.sets.specs.Members.{member, Empty}
 use Rattle.sets.proofs.Digits.{member_below}
+use Rattle.sets.proofs.LeastFrom.{least_from_is}
 use Rattle.direct.specs.Answers.{bytes_sent, lowest_undeclared, worked_out_by, worked_out, without_bytes, laid_over}
 use Rattle.direct.specs.Promise.{IsTable, Sends, Sent, Refused, Directs}
-use Rattle.direct.proofs.Lowest.{LowestIs, undeclared_is, plain_undeclared}
+use Rattle.direct.proofs.Lowest.{LowestIs, plain_undeclared}
 
 -- a table, and paths that it declares
 module _ (t : Declared) (w : WellFormed t) (injected : ℕ) (all : AllDeclared t.paths injected) where
@@ -79,7 +80,7 @@ module _ (t : Declared) (w : WellFormed t) (injected : ℕ) (all : AllDeclared t
 -- a table, and any paths
 module _ (t : Declared) (injected : ℕ) (word : injected < 2 ^ 64) where
   lowest_is : LowestIs t.paths injected (lowest_undeclared t.paths injected)
-  lowest_is = plain_undeclared t.paths injected word (lowest_undeclared t.paths injected) (undeclared_is t.paths injected)
+  lowest_is = plain_undeclared t.paths injected word (lowest_undeclared t.paths injected) (least_from_is 64 injected (length t.paths))
 
   -- where none is undeclared, what is kept of the declared ones is what is kept of all
   pub kept_same : lowest_undeclared t.paths injected ≡ None → keep_five_stage t.paths (declared_of t.paths injected) ≡ keep_five_stage t.paths injected

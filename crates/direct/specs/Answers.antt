@@ -1,7 +1,7 @@
 -- What the direct call answers and writes. Assumes nothing.
-use Rattle.std.specs.Prelude.{⊤, ℕ, cond, ◌&&◌, List, ◌++◌, map, length, drop, Some, None, Ok, Err, Option, Result, nat_le}
+use Rattle.std.specs.Prelude.{⊤, ℕ, cond, List, ◌++◌, map, length, drop, Some, None, Ok, Err, Option, Result, nat_le}
 use Rattle.std.specs.Option.{unwrap_or}
-use Rattle.std.specs.List.{position, range_with_len}
+use Rattle.std.specs.List.{range_with_len}
 use Rattle.costs.specs.Cost.{plain}
 use Rattle.faults.specs.declared.call.CallFault.{CallFault}
 use Rattle.faults.specs.declared.call.CallFault.TheVariants.{Load, UndeclaredPath, ShortBuffer}
@@ -11,7 +11,7 @@ use Rattle.layout.specs.Table.{Declared}
 use Rattle.layout.specs.declared.path.ExitPath.{ExitPath}
 use Rattle.packets.specs.Best.{best}
 use Rattle.selection.specs.Stages.{keep_five_stage}
-use Rattle.sets.specs.Members.{member}
+use Rattle.sets.specs.Members.{least_from}
 
 -- a byte for each router: its best path of a set, or 255
 abbrev pub bytes_sent : Declared → ℕ → List ℕ
@@ -19,7 +19,7 @@ bytes_sent t s = map (λ v. unwrap_or (best plain t s v) 255) (range_with_len 0 
 
 -- the lowest path of a set that is not declared
 abbrev pub lowest_undeclared : List ExitPath → ℕ → Option ℕ
-lowest_undeclared xs s = position (λ p. member s p && nat_le (length xs) p) (range_with_len 0 64)
+lowest_undeclared xs s = least_from 64 s (length xs)
 
 -- the bytes for what the five-stage rule keeps of the injected paths, where the buffer has so many bytes
 abbrev pub worked_out_by : Declared → ℕ → ℕ → Option ℕ → Result (List ℕ) CallFault

@@ -3,7 +3,7 @@ use Rattle.std.specs.Prelude.{⊤, ◌≡◌, ℕ, ◌<◌, ◌≤◌, true, Lis
 use Rattle.costs.specs.Cost.{plain}
 use Rattle.faults.specs.Faults.{call_place_of}
 use Rattle.faults.specs.declared.call.CallFault.{CallFault}
-use Rattle.faults.specs.declared.call.CallFault.TheVariants.{Load, UndeclaredPath, UndeclaredRouter, ShortBuffer}
+use Rattle.faults.specs.declared.call.CallFault.TheVariants.{Load, UndeclaredPath, UndeclaredRouter, NoRouterNamed, AlreadyInjected, NotInjected, ShortBuffer}
 use Rattle.layout.specs.Encoding.{encoded}
 use Rattle.layout.specs.Promise.{Lowest, Broken}
 use Rattle.layout.specs.Table.{Declared}
@@ -38,6 +38,9 @@ abbrev pub Refused : List ℕ → ℕ → ℕ → CallFault → Type 0
 Refused bs injected room (Load fault) = Broken bs fault
 Refused bs injected room (UndeclaredPath p) = (t : Declared) × IsTable bs t × Lowest (λ q. (member injected q ≡ true) × (length t.paths ≤ q)) p
 Refused bs injected room (UndeclaredRouter v) = ⊥
+Refused bs injected room NoRouterNamed = ⊥
+Refused bs injected room (AlreadyInjected p) = ⊥
+Refused bs injected room (NotInjected p) = ⊥
 Refused bs injected room (ShortBuffer needed) = (t : Declared) × IsTable bs t × AllDeclared t.paths injected × (room < 32) × (needed ≡ 32)
 
 -- a call is accepted exactly for a table, paths that it declares and a buffer of 32 bytes, and then the buffer says where every router

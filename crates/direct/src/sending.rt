@@ -1,12 +1,11 @@
-ghost use Rattle.std.specs.Prelude.{◌≡◌, ◌≤◌, length, Ok};
+ghost use Rattle.std.specs.Prelude.{◌≡◌, length, Ok};
 ghost use Rattle.distances.specs.Answered.{declared_by};
-ghost use Rattle.direct.specs.Answers.{lowest_undeclared, bytes_sent, direct_answer, direct_bytes};
+ghost use Rattle.direct.specs.Answers.{bytes_sent, direct_answer, direct_bytes};
 ghost use Rattle.direct.specs.Promise.{Directs};
 
 use distances::Distances;
 use faults::CallFault;
 use forwarding::best;
-use layout::ExitPath;
 use rules::{FiveStage, advertised};
 use sets::PathSet;
 use tables::Table;
@@ -16,14 +15,6 @@ const MOST_ROUTERS: usize = 32;
 
 // The byte of a router without a path.
 const NO_PATH: u8 = 255;
-
-// The lowest path of a set that is not declared.
-fn undeclared(paths: &[ExitPath], set: PathSet) -> Option<u32>
-    requires few { length paths.now ≤ 64 }
-    ensures { result ≡ lowest_undeclared paths.now set }
-{
-    set.difference(PathSet::first(paths.len() as u32)).least()
-}
 
 // A byte for each router: its best path of the set.
 fn write(distances: &Distances, set: PathSet, routers: &mut [u8]) -> Result<(), CallFault>
@@ -46,7 +37,7 @@ pub fn direct(bytes: &[u8], injected: u64, buffer: &mut [u8]) -> Result<(), Call
 {
     let table = Table::read(bytes)?;
     let injected = PathSet::from(injected);
-    if let Some(path) = undeclared(table.paths(), injected) {
+    if let Some(path) = injected.least_from(table.paths().len() as u32) {
         return Err(CallFault::UndeclaredPath(path));
     }
     if buffer.len() < MOST_ROUTERS {

@@ -1,7 +1,7 @@
 -- The number, the layer and the place of every fault. Assumes nothing.
 use Rattle.std.specs.Prelude.{ℕ}
 use Rattle.faults.specs.declared.call.CallFault.{CallFault}
-use Rattle.faults.specs.declared.call.CallFault.TheVariants.{Load, UndeclaredPath, UndeclaredRouter, ShortBuffer}
+use Rattle.faults.specs.declared.call.CallFault.TheVariants.{Load, UndeclaredPath, UndeclaredRouter, NoRouterNamed, AlreadyInjected, NotInjected, ShortBuffer}
 use Rattle.faults.specs.declared.graph.GraphFault.TheVariants.{NoRouter, NoReflector, NotJoined}
 use Rattle.faults.specs.declared.layer.Layer.{Layer}
 use Rattle.faults.specs.declared.layer.Layer.TheVariants.{Record as record_layer, Table as table_layer, Graph as graph_layer, Call as call_layer}
@@ -44,17 +44,26 @@ abbrev pub call_number_of : CallFault → ℕ
 call_number_of (Load fault) = number_of fault
 call_number_of (UndeclaredPath path) = 11
 call_number_of (UndeclaredRouter router) = 12
+call_number_of NoRouterNamed = 13
+call_number_of (AlreadyInjected path) = 14
+call_number_of (NotInjected path) = 15
 call_number_of (ShortBuffer needed) = 16
 
 abbrev pub call_layer_of : CallFault → Layer
 call_layer_of (Load fault) = layer_of fault
 call_layer_of (UndeclaredPath path) = call_layer
 call_layer_of (UndeclaredRouter router) = call_layer
+call_layer_of NoRouterNamed = call_layer
+call_layer_of (AlreadyInjected path) = call_layer
+call_layer_of (NotInjected path) = call_layer
 call_layer_of (ShortBuffer needed) = call_layer
 
--- the place in the table, the number that is not declared, or the length that is needed
+-- the place in the table, the number at fault, 0 where none is named, or the length that is needed
 abbrev pub call_place_of : CallFault → ℕ
 call_place_of (Load fault) = place_of fault
 call_place_of (UndeclaredPath path) = path
 call_place_of (UndeclaredRouter router) = router
+call_place_of NoRouterNamed = 0
+call_place_of (AlreadyInjected path) = path
+call_place_of (NotInjected path) = path
 call_place_of (ShortBuffer needed) = needed

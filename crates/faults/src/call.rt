@@ -15,6 +15,15 @@ pub enum CallFault {
     // No router has this number.
     #[error("router {0} is not declared")]
     UndeclaredRouter(u32),
+    // A step of no router.
+    #[error("no router is named")]
+    NoRouterNamed,
+    // The path is injected, and cannot be again.
+    #[error("path {0} is injected already")]
+    AlreadyInjected(u32),
+    // The path is not injected, and cannot be withdrawn.
+    #[error("path {0} is not injected")]
+    NotInjected(u32),
     // The buffer is shorter than this.
     #[error("the buffer is shorter than {0} bytes")]
     ShortBuffer(usize),
@@ -45,6 +54,9 @@ impl Fault for CallFault {
             CallFault::Load(fault) => fault.number(),
             CallFault::UndeclaredPath(_) => 11,
             CallFault::UndeclaredRouter(_) => 12,
+            CallFault::NoRouterNamed => 13,
+            CallFault::AlreadyInjected(_) => 14,
+            CallFault::NotInjected(_) => 15,
             CallFault::ShortBuffer(_) => 16,
         }
     }
@@ -54,6 +66,9 @@ impl Fault for CallFault {
             CallFault::Load(fault) => fault.layer(),
             CallFault::UndeclaredPath(_)
             | CallFault::UndeclaredRouter(_)
+            | CallFault::NoRouterNamed
+            | CallFault::AlreadyInjected(_)
+            | CallFault::NotInjected(_)
             | CallFault::ShortBuffer(_) => Layer::Call,
         }
     }
@@ -61,8 +76,11 @@ impl Fault for CallFault {
     fn place(self) -> usize {
         match self {
             CallFault::Load(fault) => fault.place(),
-            CallFault::UndeclaredPath(path) => path as usize,
+            CallFault::UndeclaredPath(path)
+            | CallFault::AlreadyInjected(path)
+            | CallFault::NotInjected(path) => path as usize,
             CallFault::UndeclaredRouter(router) => router as usize,
+            CallFault::NoRouterNamed => 0,
             CallFault::ShortBuffer(needed) => needed,
         }
     }

@@ -3,7 +3,6 @@ pub mod Pairs
 pub mod Checks
 pub mod Records
 pub mod Adding
-pub mod Firsts
 pub mod Chains
 pub mod Whole
 pub mod KindBytes

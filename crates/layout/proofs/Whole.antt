@@ -16,10 +16,10 @@ use Rattle.layout.specs.declared.router.Role.TheVariants.{Client, Reflector}
 use Rattle.layout.specs.declared.router.Router.{Router}
 use Rattle.layout.proofs.Chains.{Labelled, labelled, chain_label}
 use Rattle.layout.proofs.Checks.{a_client, is_from}
-use Rattle.layout.proofs.Firsts.{First, first, first_none}
+use Rattle.sets.proofs.Firsts.{First, first, first_none}
 use Rattle.layout.proofs.Lengths.{router_place_is}
 
-a_reflector : (c : ℕ) (role : Role) → not (is_client role) ≡ true → ◌≡◌ {A = Router} (record { cluster = c; role = role }) (reflector c)
+pub a_reflector : (c : ℕ) (role : Role) → not (is_client role) ≡ true → ◌≡◌ {A = Router} (record { cluster = c; role = role }) (reflector c)
 a_reflector c Client e = absurd (false≢true e)
 a_reflector c Reflector e = refl
 

@@ -8,3 +8,4 @@ pub mod Following
 pub mod PlainPackets
 pub mod HopLoops
 pub mod Tracing
+pub mod SameChoices

@@ -14,7 +14,7 @@ use Rattle.layout.specs.Promise.{Lowest}
 use Rattle.layout.specs.Table.{Declared}
 use Rattle.layout.specs.WellFormed.{Same, LinkFits, Chain, stay, along}
 use Rattle.layout.specs.declared.link.Link.{Link}
-use Rattle.layout.proofs.Firsts.{First, first}
+use Rattle.sets.proofs.Firsts.{First, first}
 use Rattle.layout.proofs.Pairs.{decides_same}
 use Rattle.packets.specs.Hops.{level, leads, some_leads, hop, Towards, NextHop, HopIs}
 

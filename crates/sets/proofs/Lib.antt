@@ -7,5 +7,8 @@ pub mod Shifted
 pub mod Subsets
 pub mod Smallest
 pub mod Counting
+pub mod Lowered
 pub mod Laws
 pub mod Widths
+pub mod Firsts
+pub mod LeastFrom

@@ -1,5 +1,6 @@
 -- Which numbers a word stands for. Assumes nothing.
-use Rattle.std.specs.Prelude.{◌≡◌, ℕ, zero, suc, ◌+◌, ◌/◌, ◌%◌, ◌^◌, ◌<◌, min, not, ◌&&◌, Option, MatchOption, Bool, true, false, cond, ◌==◌}
+use Rattle.std.specs.Prelude.{◌≡◌, ℕ, zero, suc, ◌+◌, ◌/◌, ◌%◌, ◌^◌, ◌<◌, min, not, ◌&&◌, Option, MatchOption, Bool, true, false, cond, ◌==◌, nat_le}
+use Rattle.std.specs.List.{position, range_with_len}
 
 -- whether n is a member of the set that the word w stands for: bit n of w is 1
 unfoldable pub member : ℕ → ℕ → Bool
@@ -31,3 +32,7 @@ abbrev pub TakesLeast : ℕ → ℕ → Option ℕ → ℕ → Type 0
 TakesLeast width from taken rest =
     MatchOption taken (Empty from × (rest ≡ from))
     (λ m. Least from m × (m < width) × ((k : ℕ) → member rest k ≡ (member from k && not (k == m))))
+
+-- the least member of w at or past n, of the numbers below width
+abbrev pub least_from : ℕ → ℕ → ℕ → Option ℕ
+least_from width w n = position (λ p. member w p && nat_le n p) (range_with_len 0 width)

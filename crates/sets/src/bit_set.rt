@@ -1,7 +1,7 @@
 // Sets of small numbers, each held in one word.
-ghost use Rattle.std.specs.Prelude.{◌≡◌, ℕ, ◌-◌, ◌^◌, ◌<◌, not, ◌&&◌, ◌||◌, Decides, MatchOption, ◌==◌, bit_and, bit_or, count_ones, nat_lt};
+ghost use Rattle.std.specs.Prelude.{◌≡◌, ℕ, ◌-◌, ◌^◌, ◌<◌, not, ◌&&◌, ◌||◌, Decides, MatchOption, ◌==◌, bit_and, bit_or, count_ones, nat_lt, true, None};
 ghost use Rattle.std.specs.Iterator.{at_most};
-ghost use Rattle.sets.specs.Members.{member, members_below, width_of, Empty, Least, Subset, TakesLeast};
+ghost use Rattle.sets.specs.Members.{member, members_below, width_of, Empty, Least, Subset, TakesLeast, least_from};
 
 use std::marker::Model;
 
@@ -142,6 +142,21 @@ impl<const WIDTH: u32> BitSet<WIDTH> {
         }
     }
 
+    // The set but for its least member; the empty set is left as it is.
+    fn without_least(self) -> Self
+        ensures { (m : ℕ) → Least self.entry m → (k : ℕ) → member result k ≡ (member self.entry k && not (k == m)) }
+    {
+        Self(self.0 & self.0.wrapping_sub(1))
+    }
+
+    // The least member at or past `n`; none where all members are below `n`.
+    pub fn least_from(self, n: u32) -> Option<u32>
+        ensures value { result ≡ least_from (width_of WIDTH) self.entry n }
+        ensures below { result ≡ None → (k : ℕ) → member self.entry k ≡ true → k < n }
+    {
+        self.difference(Self::first(n)).least()
+    }
+
     // The members, the least first.
     pub fn iter(self) -> Iter<WIDTH>
         ensures { result ≡ self.entry }
@@ -211,7 +226,7 @@ impl<const WIDTH: u32> Iterator for Iter<WIDTH> {
 
     fn next(&mut self) -> Option<u32> {
         let least = self.rest.least()?;
-        self.rest = self.rest.without(least);
+        self.rest = self.rest.without_least();
         Some(least)
     }
 }

@@ -1,50 +1,59 @@
-// Reads a table from standard input and prints where each router sends its traffic when every path is
-// injected, or why the table is refused.
+// Reads a table from standard input, injects every path of it and settles the network, and prints where each router sends its
+// traffic then, or why the table is refused.
 #![tactic(auto)]
 
-ghost use Rattle.std.specs.Prelude.{◌≡◌, ◌-◌, ◌^◌, length};
-ghost use Rattle.selection.specs.Stages.{keep_five_stage};
-ghost use Rattle.tables.specs.Accepted.{declared};
+ghost use Rattle.std.specs.Prelude.{◌≡◌, ◌≤◌, IfOk, MatchResult, Ok, Err};
+ghost use Rattle.faults.specs.declared.call.CallFault.TheVariants.{Load};
+ghost use Rattle.faults.specs.declared.load.LoadFault.{LoadFault};
+ghost use Rattle.layout.specs.Reading.{table_in};
+ghost use Rattle.layout.specs.Table.{Declared};
+ghost use Rattle.network.specs.Held.{state_of};
+ghost use Rattle.settle.specs.Report.{AllInjected, report_length, report_bytes};
 
-use distances::Distances;
-use faults::{Fault, LoadFault};
-use forwarding::{best, metric};
-use rules::{FiveStage, advertised};
-use sets::PathSet;
-use std::io::Read;
-use tables::Table;
+use faults::{CallFault, Fault};
+use listing::MOST_BYTES;
+use reflectors::{Running, Settled};
+use rules::{FiveStage, Rule};
+use std::io;
+use std::io::{Read, Write};
 
-// The best path of a router of a set, and its metric.
-fn line(rt: &impl Print, distances: &Distances, router: u32, set: PathSet) -> anyhow::Result<()> {
-    match best(distances, router, set)? {
-        Some(path) => {
-            let metric = metric(distances, router, path as u32)?;
-            println!(rt; "R{router} P{path} {metric}")?;
-        }
-        None => println!(rt; "R{router} - -")?,
-    }
-    Ok(())
-}
-
-// What the five-stage rule keeps of all paths.
-fn kept_of_all(table: &Table) -> PathSet
-    ensures { result ≡ keep_five_stage (declared table.now).paths (2 ^ length (declared table.now).paths - 1) }
+// Injects every path: one number after another, up to the first that is not declared.
+fn inject_all<R: Rule>(network: &mut Running<R>)
+    requires none { (state_of network.old.network.held).injected ≡ 0 }
+    ensures all { AllInjected (state_of network.old.network.held).table (state_of network.new.network.held) }
+    ensures rule { network.new.network.rule ≡ network.old.network.rule }
 {
-    advertised(&FiveStage, table.paths(), PathSet::first(u64::BITS))
+    for path in 0..u64::BITS {
+        if network.inject(path).is_err() {
+            return;
+        }
+    }
 }
 
-// A line a router, where all advertise that.
-fn list(rt: &impl Print, table: Table) -> anyhow::Result<()> {
-    let kept = kept_of_all(&table);
-    let distances = Distances::of(table);
-    for router in 0..distances.table().routers().len() {
-        line(rt, &distances, router as u32, kept)?;
-    }
-    Ok(())
+// The settled network of a table, with every path injected, or why the table is refused.
+fn settled_with_all<R: Rule + Drop>(rule: R, bytes: &[u8]) -> Result<Settled<R>, CallFault>
+    ensures { MatchResult result
+        (λ n. (t : Declared) × (table_in bytes.now ≡ Ok t) × AllInjected t (state_of n.network.held) × (n.network.rule ≡ rule))
+        (λ fault. (why : LoadFault) × (table_in bytes.now ≡ Err why) × (fault ≡ Load why)) }
+{
+    let mut network = Running::new(rule);
+    network.load(bytes)?;
+    inject_all(&mut network);
+    Ok(network.settle())
+}
+
+// Writes where each router sends its traffic when every path is injected, under the five-stage rule. Answers how many bytes
+// that takes, or why the table is refused.
+fn report(bytes: &[u8], buffer: &mut [u8; MOST_BYTES]) -> Result<usize, CallFault>
+    ensures value { result ≡ report_length (table_in bytes.now) }
+    ensures bytes { buffer.new ≡ report_bytes (table_in bytes.now) buffer.old }
+    ensures short { IfOk result (λ n. n ≤ 512) }
+{
+    settled_with_all(FiveStage, bytes)?.list(buffer)
 }
 
 // The number and the place, and on standard error the reason in words.
-fn refuse<R: Print + Eprint>(rt: &R, fault: LoadFault) -> anyhow::Result<()> {
+fn refuse<R: Print + Eprint>(rt: &R, fault: CallFault) -> anyhow::Result<()> {
     println!(rt; "{} {}", fault.number(), fault.place())?;
     eprintln!(rt; "settle: refused at {fault}")?;
     Ok(())
@@ -53,10 +62,12 @@ fn refuse<R: Print + Eprint>(rt: &R, fault: LoadFault) -> anyhow::Result<()> {
 fn run(rt: &HostRuntime) -> anyhow::Result<()> {
     let mut bytes = Vec::new(rt.alloc());
     rt.stdin().read_to_end(&mut bytes)?;
-    match Table::read(bytes.as_slice()) {
-        Ok(table) => list(rt, table),
-        Err(fault) => refuse(rt, fault),
+    let mut buffer = [0; MOST_BYTES];
+    match report(bytes.as_slice(), &mut buffer) {
+        Ok(count) => io::writer(rt).write_all(&buffer[..count])?,
+        Err(fault) => refuse(rt, fault)?,
     }
+    Ok(())
 }
 
 fn main(rt: HostRuntime) -> anyhow::Result<()> {

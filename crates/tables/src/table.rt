@@ -4,6 +4,7 @@ ghost use Rattle.declarations.specs.Held.{declared_in};
 mod exits;
 mod lists;
 mod read;
+mod sessions;
 
 use declarations::Declarations;
 

@@ -1,6 +1,6 @@
 //! Lines for the program `cases`, and what it prints for each. What is kept of a set, where routers
 //! send their traffic and what is refused is as the pages say, and how a line looks as in
-//! crates/cases/stdout.
+//! crates/cases/stdout. Lines with calls on a network stand last there, and are none of these.
 
 use crate::direct::{LEAST_BUFFER, SHORT_BUFFER, UNDECLARED_PATH};
 use crate::distances::Distances;
@@ -175,6 +175,17 @@ mod tests {
     const LINES: &str = include_str!("../../../crates/cases/stdin");
     const PRINTED: &str = include_str!("../../../crates/cases/stdout");
 
+    /// The lines without calls on a network, and what is printed for them.
+    fn without_calls() -> (&'static str, &'static str) {
+        let is_behind = |place: &usize| LINES[*place..].lines().all(|line| line.contains('!'));
+        let mut starts = LINES.match_indices('\n').map(|(place, _)| place + 1);
+        let start = starts.find(is_behind).unwrap();
+        let (lines, behind) = LINES.split_at(start);
+        let (name, _) = behind.split_once(':').unwrap();
+        let answers = PRINTED.find(&format!("\n{name}:\n")).unwrap() + 1;
+        (lines, &PRINTED[..answers])
+    }
+
     fn line(text: &str) -> Line {
         let (name, rest) = text.split_once(':').unwrap();
         let (table, asked, set) = if let Some((table, set)) = rest.split_once("; ") {
@@ -197,19 +208,21 @@ mod tests {
 
     #[test]
     fn the_lines_of_the_program() {
-        let lines: Vec<Line> = LINES.lines().map(line).collect();
-        assert_eq!(lines.iter().map(Line::text).collect::<String>(), LINES);
-        assert_eq!(difference(&lines, PRINTED), None);
+        let (texts, printed) = without_calls();
+        let lines: Vec<Line> = texts.lines().map(line).collect();
+        assert_eq!(lines.iter().map(Line::text).collect::<String>(), texts);
+        assert_eq!(difference(&lines, printed), None);
     }
 
     #[test]
     fn every_line_printed_is_compared() {
-        let lines: Vec<Line> = LINES.lines().map(line).collect();
-        for (end, _) in PRINTED.match_indices('\n').step_by(19) {
-            let printed = format!("{}!{}", &PRINTED[..end], &PRINTED[end..]);
+        let (texts, answers) = without_calls();
+        let lines: Vec<Line> = texts.lines().map(line).collect();
+        for (end, _) in answers.match_indices('\n').step_by(19) {
+            let printed = format!("{}!{}", &answers[..end], &answers[end..]);
             assert!(difference(&lines, &printed).is_some());
         }
-        assert!(difference(&lines, &format!("{PRINTED}more\n")).is_some());
-        assert!(difference(&lines[1..], PRINTED).is_some());
+        assert!(difference(&lines, &format!("{answers}more\n")).is_some());
+        assert!(difference(&lines[1..], answers).is_some());
     }
 }

@@ -1,23 +1,12 @@
 //! How many tables were answered how, and of which sizes they were.
 
 use crate::cases::Asked;
+use crate::refusals::NAMES;
 use crate::table::{Table, MOST_ROUTERS};
 use crate::tables::FULL;
 
-const REFUSALS: [(usize, &str); 12] = [
-    (1, "unknown kind"),
-    (2, "cut short"),
-    (3, "kind falls"),
-    (4, "too many"),
-    (5, "out of range"),
-    (6, "bad pair"),
-    (7, "bad session"),
-    (8, "no router"),
-    (9, "no reflector"),
-    (10, "not joined"),
-    (11, "undeclared path"),
-    (16, "short buffer"),
-];
+/// The refusals that the library's call can come to.
+const REFUSALS: [usize; 12] = [1, 2, 3, 4, 5, 6, 7, 8, 9, 10, 11, 16];
 
 /// So many tables must reach every size.
 const ENOUGH: u64 = 20_000;
@@ -67,8 +56,8 @@ impl Counts {
 
     pub fn print(&self) {
         println!("{} tables, no difference", self.tables);
-        for (number, what) in REFUSALS {
-            let times = self.by_number[number];
+        for number in REFUSALS {
+            let (what, times) = (NAMES[number], self.by_number[number]);
             println!("refused with {number:2}, {what}: {times}");
         }
         println!("well-formed: {}", self.well_formed);
@@ -89,7 +78,7 @@ impl Counts {
 
     /// What the tables should have reached and did not, if anything.
     pub fn missing(&self) -> Option<&'static str> {
-        let reached = |&(number, _): &(usize, _)| self.by_number[number] > 0;
+        let reached = |&number: &usize| self.by_number[number] > 0;
         let mut sizes = self.by_routers.iter().chain(&self.at_limits);
         if !REFUSALS.iter().all(reached) {
             Some("some refusal was never reached")
@@ -104,7 +93,7 @@ impl Counts {
 }
 
 /// Adds each number to the one in its place.
-fn add(numbers: &mut [u64], others: &[u64]) {
+pub fn add(numbers: &mut [u64], others: &[u64]) {
     for (number, other) in numbers.iter_mut().zip(others) {
         *number += other;
     }

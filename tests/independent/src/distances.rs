@@ -3,6 +3,7 @@
 use crate::table::{Table, MOST_ROUTERS};
 
 /// How far it is from each router to each.
+#[derive(Clone)]
 pub struct Distances([[u32; MOST_ROUTERS]; MOST_ROUTERS]);
 
 /// No way is known. Two of them still fit in 32 bits.

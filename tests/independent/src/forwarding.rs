@@ -61,13 +61,23 @@ pub struct Way {
     pub exit: usize,
 }
 
-/// Follows a packet as long as it meets no router twice: none if there is no path, or if it runs
-/// in a circle.
+/// The way of a packet where all routers choose from one set.
 pub fn way(table: &Table, distances: &Distances, router: usize, set: u64) -> Option<Way> {
+    way_by(table, distances, router, |_| set)
+}
+
+/// The same where each router has a set to choose from. Follows a packet as long as it meets no
+/// router twice: none if there is no path, or if it runs in a circle.
+pub fn way_by(
+    table: &Table,
+    distances: &Distances,
+    router: usize,
+    sets: impl Fn(usize) -> u64,
+) -> Option<Way> {
     let mut met = vec![router];
     loop {
         let at = met[met.len() - 1];
-        let exit = best(table, distances, at, set)?;
+        let exit = best(table, distances, at, sets(at))?;
         match next_hop(table, distances, at, exit) {
             Hop::Out => return Some(Way { met, exit }),
             Hop::To(next) if met.contains(&next) => return None,

@@ -1,9 +1,10 @@
-//! What the program `settle` prints on standard output (docs/PROTOCOL.md, docs/REFUSALS.md).
+//! The lines of routers in a list, and what the program `settle` prints on standard output
+//! (docs/PROTOCOL.md, docs/REFUSALS.md).
 
 use crate::distances::Distances;
 use crate::forwarding::{best, metric};
 use crate::rules::five_stage;
-use crate::table;
+use crate::table::{self, Table};
 use std::fmt::Write;
 
 pub fn lines(bytes: &[u8]) -> String {
@@ -13,16 +14,21 @@ pub fn lines(bytes: &[u8]) -> String {
     };
     let kept = five_stage(&table.paths, u64::MAX);
     let distances = Distances::of(&table);
+    list(&table, &distances, |_| kept)
+}
+
+/// The best path of each router of its set, and the metric of that.
+pub fn list(table: &Table, distances: &Distances, sets: impl Fn(usize) -> u64) -> String {
     let mut text = String::new();
     for router in 0..table.routers.len() {
-        let line = match best(&table, &distances, router, kept) {
-            None => format!("R{router} - -"),
+        let written = match best(table, distances, router, sets(router)) {
+            None => writeln!(text, "R{router} - -"),
             Some(path) => {
-                let metric = metric(&table, &distances, router, path);
-                format!("R{router} P{path} {metric}")
+                let metric = metric(table, distances, router, path);
+                writeln!(text, "R{router} P{path} {metric}")
             }
         };
-        writeln!(text, "{line}").expect("a string takes every line");
+        written.expect("a string takes every line");
     }
     text
 }

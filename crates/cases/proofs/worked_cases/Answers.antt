@@ -9,6 +9,7 @@ use Rattle.layout.specs.Table.{Declared}
 use Rattle.layout.specs.declared.path.ExitPath.{ExitPath}
 use Rattle.packets.specs.Best.{best_below}
 use Rattle.packets.specs.Ways.{course}
+use Rattle.protocol.specs.Moves.{for_each, after_all, all_of}
 use Rattle.selection.specs.Laws.{Keeping, Laws, AllDeclared}
 use Rattle.selection.specs.Stages.{joined, some, those}
 use Rattle.sets.specs.Members.{member}
@@ -30,7 +31,7 @@ broken kept (Ok t) h = heritage_broken (kept t) t.paths h.0 h.1 h.2
 broken kept (Err fault) h = h
 
 pub returns : goal.returns
-unfolding member joined some those by_links over best_below course
+unfolding member joined some those by_links over best_below course for_each after_all all_of
 returns c =
     let no_rule = broken (keep_best 1) (table_in worked_table) (refl, refl, refl) in
-    record { hold = All-from_recursion Holds worked (refl, (refl, (refl, (refl, (refl, (refl, (refl, (refl, ((refl, refl), (refl, ((refl, refl), (refl, (refl, (no_rule, tt)))))))))))))); count = refl }
+    record { hold = All-from_recursion Holds worked (refl, (refl, (refl, (refl, (refl, (refl, (refl, (refl, ((refl, refl), (refl, ((refl, refl), (refl, (refl, (no_rule, (refl, (refl, (refl, (refl, (refl, (refl, (refl, (refl, (refl, tt))))))))))))))))))))))); count = refl }

@@ -4,18 +4,12 @@
 mod linked;
 
 use independent::direct::{direct, direct_with};
-use independent::random::Random;
 use independent::sets::below;
-use independent::table::{Table, MOST_LINKS};
-use independent::tables::{self, Size};
+use independent::shapes::{Shape, COLUMNS, PATHS, ROUTERS, TABLES};
 use independent::{encode, nearest};
 use std::time::Instant;
 
-const ROUTERS: [usize; 4] = [4, 8, 16, 32];
-const PATHS: [usize; 3] = [1, 16, 64];
-
-/// Tables of each size, and how often a batch goes through them.
-const TABLES: usize = 8;
+/// How often a batch goes through the tables of a size.
 const ROUNDS: usize = 50;
 const BATCHES: usize = 50;
 
@@ -31,19 +25,14 @@ fn spreading(table: &[u8], injected: u64, buffer: &mut [u8]) -> u64 {
 
 /// The tables of one size, and microseconds a call, the least of the batches so far.
 struct Measured {
-    size: Size,
-    tables: Vec<Table>,
+    shape: Shape,
     bytes: Vec<Vec<u8>>,
     least: [f64; 3],
 }
 
 fn main() {
-    let mut all = Vec::new();
-    for routers in ROUTERS {
-        for paths in PATHS {
-            all.push(Measured::new(routers, paths));
-        }
-    }
+    let all = Shape::all().into_iter().map(Measured::new);
+    let mut all: Vec<Measured> = all.collect();
     // The calls take turns, and so do the sizes, so that a slow moment of the machine hits all.
     for _ in 0..BATCHES {
         all.iter_mut().for_each(Measured::batches);
@@ -57,31 +46,21 @@ fn main() {
         "'independent' works out all distances first, 'spreading' none; a ratio is library / it"
     );
     println!();
-    println!("routers links sessions paths   library  independent  ratio  spreading  ratio");
+    println!("{COLUMNS}   library  independent  ratio  spreading  ratio");
     all.iter().for_each(Measured::print);
     growth(&all);
 }
 
 impl Measured {
-    fn new(routers: usize, paths: usize) -> Measured {
-        let size = Size {
-            routers,
-            links: (3 * routers).min(MOST_LINKS),
-            sessions: 2 * routers,
-            paths,
-        };
-        let mut random = Random::new(1);
-        let tables: Vec<Table> = (0..TABLES)
-            .map(|_| tables::of_size(&mut random, size))
-            .collect();
-        let bytes = tables.iter().map(|table| encode::records(table).concat());
+    fn new(shape: Shape) -> Measured {
+        let bytes = shape.tables.iter();
+        let bytes = bytes.map(|table| encode::records(table).concat());
         let bytes: Vec<Vec<u8>> = bytes.collect();
         for table in &bytes {
-            agree(table, below(paths));
+            agree(table, below(shape.paths));
         }
         Measured {
-            size,
-            tables,
+            shape,
             bytes,
             least: [f64::INFINITY; 3],
         }
@@ -89,21 +68,15 @@ impl Measured {
 
     fn batches(&mut self) {
         for (call, least) in CALLS.into_iter().zip(&mut self.least) {
-            *least = least.min(batch(call, &self.bytes, below(self.size.paths)));
+            *least = least.min(batch(call, &self.bytes, below(self.shape.paths)));
         }
     }
 
     fn print(&self) {
-        let average = |count: fn(&Table) -> usize| {
-            self.tables.iter().map(count).sum::<usize>() as f64 / TABLES as f64
-        };
         let [library, independent, spreading] = self.least;
         println!(
-            "{:7} {:5.0} {:8.0} {:5} {library:9.3} {independent:12.3} {:6.2} {spreading:10.3} {:6.2}",
-            self.size.routers,
-            average(|table| table.links.len()),
-            average(|table| table.sessions.len()),
-            self.size.paths,
+            "{} {library:9.3} {independent:12.3} {:6.2} {spreading:10.3} {:6.2}",
+            self.shape.columns(),
             library / independent,
             library / spreading,
         );
@@ -146,8 +119,9 @@ fn once(call: Call, table: &[u8], injected: u64, buffer: &mut [u8]) {
 /// How many times as long the largest tables take as the smallest.
 fn growth(all: &[Measured]) {
     let times = |routers, paths| {
-        let is =
-            |measured: &&Measured| measured.size.routers == routers && measured.size.paths == paths;
+        let is = |measured: &&Measured| {
+            (measured.shape.routers, measured.shape.paths) == (routers, paths)
+        };
         all.iter().find(is).expect("it was measured").least
     };
     let line = |what: String, from: [f64; 3], to: [f64; 3]| {

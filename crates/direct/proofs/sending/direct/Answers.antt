@@ -10,8 +10,8 @@ pub returns-in-Some : goal.returns-in-Some
 returns-in-Some c =
     let t = declared c.in_ok-table.table in
     let word : c.args.injected < 2 ^ 64 = c.ranges.injected.fits in
-    let is : c.undeclared.result ≡ lowest_undeclared t.paths c.args.injected = search rules in
-    let out = undeclared_path c.args.bytes.now c.args.injected word c.args.buffer.now t c.undeclared.result c.in-Some.path c.in_ok-table.ensures.value is c.in-Some.is in
+    let is : c.least_from.result ≡ lowest_undeclared t.paths c.args.injected = search rules in
+    let out = undeclared_path c.args.bytes.now c.args.injected word c.args.buffer.now t c.least_from.result c.in-Some.path c.in_ok-table.ensures.value is c.in-Some.is in
     let end = ends c.args.bytes.now c.args.injected word c.args.buffer.now t c.in_ok-table.ensures.value c.in_ok-table.ensures.promise _ out refl refl in
     record { value = end.0; bytes = end.1; promise = end.2 }
 
@@ -19,8 +19,8 @@ pub returns-then-buffer-lt-MOST_ROUTERS : goal.returns-then-buffer-lt-MOST_ROUTE
 returns-then-buffer-lt-MOST_ROUTERS c =
     let t = declared c.in_ok-table.table in
     let word : c.args.injected < 2 ^ 64 = c.ranges.injected.fits in
-    let is : c.undeclared.result ≡ lowest_undeclared t.paths c.args.injected = search rules in
-    let out = short_buffer c.args.bytes.now c.args.injected word c.args.buffer.now t c.undeclared.result c.in_ok-table.ensures.value is c.in_default.is c.if-buffer-lt-MOST_ROUTERS.true in
+    let is : c.least_from.result ≡ lowest_undeclared t.paths c.args.injected = search rules in
+    let out = short_buffer c.args.bytes.now c.args.injected word c.args.buffer.now t c.least_from.result c.in_ok-table.ensures.value is c.in_default.is c.if-buffer-lt-MOST_ROUTERS.true in
     let end = ends c.args.bytes.now c.args.injected word c.args.buffer.now t c.in_ok-table.ensures.value c.in_ok-table.ensures.promise _ out refl refl in
     record { value = end.0; bytes = end.1; promise = end.2 }
 
@@ -28,8 +28,8 @@ pub returns : goal.returns
 returns c =
     let t = declared c.in_ok-table.table in
     let word : c.args.injected < 2 ^ 64 = c.ranges.injected.fits in
-    let is : c.undeclared.result ≡ lowest_undeclared t.paths c.args.injected = search rules in
-    let out = all_written c.args.bytes.now c.args.injected word c.args.buffer.now t c.undeclared.result c.in_ok-table.ensures.value is c.in_default.is (omega (arith, c.if-buffer-lt-MOST_ROUTERS.false)) in
+    let is : c.least_from.result ≡ lowest_undeclared t.paths c.args.injected = search rules in
+    let out = all_written c.args.bytes.now c.args.injected word c.args.buffer.now t c.least_from.result c.in_ok-table.ensures.value is c.in_default.is (omega (arith, c.if-buffer-lt-MOST_ROUTERS.false)) in
     let kept : c.advertised-kept.result ≡ keep_five_stage t.paths c.args.injected =
     search (rules, kept_same t c.args.injected word (sym is ∙ c.in_default.is)) in
     let routers : c.write.new.routers ≡ bytes_sent t (keep_five_stage t.paths c.args.injected) =

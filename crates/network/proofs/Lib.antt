@@ -1,0 +1,6 @@
+pub mod Whole
+pub mod Changes
+pub mod Activating
+pub mod Rounds
+pub mod AtRest
+pub mod Listed

@@ -1,0 +1,20 @@
+-- What a network of the library holds. Assumes nothing.
+use Rattle.std.specs.Prelude.{Some, None, Option}
+use Rattle.distances.specs.Answered.{declared_by}
+use Rattle.layout.specs.Table.{Declared, nothing}
+use Rattle.peering.specs.declared.peering.Peering.{Peering}
+use Rattle.protocol.specs.Network.{State}
+use Rattle.network.specs.declared.held.Held.{Held}
+use Rattle.network.specs.declared.held.Sets.{Sets}
+
+-- the table, or none yet
+abbrev pub table_of : Option Peering → Declared
+table_of None = nothing
+table_of (Some p) = declared_by p.distances
+
+abbrev pub state_of : Held → State
+state_of h = record { table = table_of h.peering; injected = h.sets.injected; known = h.sets.known; advertised = h.sets.advertised }
+
+-- the network of a table with these sets
+abbrev pub state_with : Declared → Sets → State
+state_with t s = record { table = t; injected = s.injected; known = s.known; advertised = s.advertised }

@@ -1,0 +1,104 @@
+ghost use Rattle.std.specs.Prelude.{◌≡◌, ℕ, ◌<◌, ◌≤◌, ◌&&◌, not, length, nat_lt};
+ghost use Rattle.distances.specs.Answered.{declared_by};
+ghost use Rattle.protocol.specs.Network.{own_of, learned};
+ghost use Rattle.sets.specs.Members.{member};
+ghost use Rattle.peering.specs.Peered.{exits_by, client_exits_by, peer_by, reflected_by, passed_by};
+
+use crate::peering::Peering;
+use layout::Role;
+use sets::{PathSet, RouterSet};
+
+impl Peering {
+    // The exit paths of a router.
+    fn exits_of(&self, v: usize) -> PathSet
+        requires { v < length (declared_by self.now.distances).routers }
+        ensures { (p : ℕ) → member result p ≡ exits_by (declared_by self.now.distances) v p }
+    {
+        self.exits[v]
+    }
+
+    // The exit paths of the clients of a router's cluster.
+    fn client_exits_of(&self, v: usize) -> PathSet
+        requires { v < length (declared_by self.now.distances).routers }
+        ensures { (p : ℕ) → member result p ≡ client_exits_by (declared_by self.now.distances) v p }
+    {
+        self.client_exits[v]
+    }
+
+    // The peers of a router.
+    fn peers_of(&self, v: usize) -> RouterSet
+        requires { v < length (declared_by self.now.distances).routers }
+        ensures { (w : ℕ) → member result w ≡ peer_by (declared_by self.now.distances) v w }
+    {
+        self.peers[v]
+    }
+
+    // The paths that do not leave at a router.
+    fn exits_elsewhere(&self, v: usize) -> PathSet
+        requires { v < length (declared_by self.now.distances).routers }
+        ensures { (p : ℕ) → member result p ≡ (nat_lt p (length (declared_by self.now.distances).paths) && not (exits_by (declared_by self.now.distances) v p)) }
+    {
+        let all = PathSet::first(self.distances.table().paths().len() as u32);
+        all.difference(self.exits_of(v))
+    }
+
+    // The paths that router w passes to its peer v though it is not their exit point.
+    fn reflected(&self, w: usize, v: usize) -> PathSet
+        requires from { w < length (declared_by self.now.distances).routers }
+        requires to { v < length (declared_by self.now.distances).routers }
+        ensures { (p : ℕ) → member result p ≡ reflected_by (declared_by self.now.distances) w v p }
+    {
+        let routers = self.distances.table().routers();
+        let together = routers[w].cluster == routers[v].cluster;
+        match (routers[w].role, routers[v].role) {
+            (Role::Reflector, Role::Reflector) => {
+                if !together {
+                    return self.client_exits_of(w);
+                }
+            }
+            (Role::Reflector, Role::Client) => {
+                if together {
+                    return self.exits_elsewhere(v);
+                }
+            }
+            (Role::Client, _) => {}
+        }
+        PathSet::empty()
+    }
+
+    // The paths of a set that router w passes to its peer v.
+    fn passed(&self, w: usize, v: usize, set: PathSet) -> PathSet
+        requires from { w < length (declared_by self.now.distances).routers }
+        requires to { v < length (declared_by self.now.distances).routers }
+        ensures { (p : ℕ) → member result p ≡ (member set p && passed_by (declared_by self.now.distances) w v p) }
+    {
+        set.intersection(self.exits_of(w).union(self.reflected(w, v)))
+    }
+
+    // The injected paths of a router; none where it is not declared.
+    pub fn own(&self, injected: PathSet, v: usize) -> PathSet
+        ensures undeclared { length (declared_by self.now.distances).routers ≤ v → result ≡ 0 }
+        ensures own { v < length (declared_by self.now.distances).routers → result ≡ own_of (declared_by self.now.distances) injected v }
+    {
+        if v >= self.distances.table().routers().len() {
+            return PathSet::empty();
+        }
+        injected.intersection(self.exits_of(v))
+    }
+
+    // What a router learns: of the injected paths its own, and what its peers pass of the sets that they advertise. Nothing
+    // where it is not declared.
+    pub fn learned(&self, injected: PathSet, advertised: &[PathSet; 32], v: usize) -> PathSet
+        ensures undeclared { length (declared_by self.now.distances).routers ≤ v → result ≡ 0 }
+        ensures learned { v < length (declared_by self.now.distances).routers → result ≡ learned (declared_by self.now.distances) injected advertised.now v }
+    {
+        if v >= self.distances.table().routers().len() {
+            return PathSet::empty();
+        }
+        let mut known = injected.intersection(self.exits_of(v));
+        for w in self.peers_of(v) {
+            known = known.union(self.passed(w as usize, v, advertised[w as usize]));
+        }
+        known
+    }
+}

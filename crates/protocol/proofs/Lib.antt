@@ -1,0 +1,14 @@
+pub mod Learning
+pub mod Levels
+pub mod Activation
+pub mod Rising
+pub mod Flushing
+pub mod Filling
+pub mod Settling
+pub mod Quiet
+pub mod Resting
+pub mod Leaving
+pub mod Staying
+pub mod Moving
+pub mod Running
+pub mod Plainly

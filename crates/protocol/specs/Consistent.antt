@@ -1,0 +1,32 @@
+-- What every network keeps, whatever is asked of it. Assumes nothing.
+use Rattle.std.specs.Prelude.{◌≡◌, ℕ, ◌<◌, ◌≤◌, true, length}
+use Rattle.layout.specs.Table.{Declared}
+use Rattle.layout.specs.WellFormed.{Connected, Led, Sound}
+use Rattle.packets.specs.Best.{exit_of}
+use Rattle.selection.specs.Laws.{Keeping, AllDeclared}
+use Rattle.sets.specs.Members.{member}
+use Rattle.protocol.specs.Network.{State, set_of}
+
+-- a table that a network has: a well-formed one, or that in which nothing is declared
+pub record Fits (t : Declared) : Type 0 where
+  pub sound : Sound t
+  pub led : Led t.routers
+  pub connected : Connected t
+
+pub record Consistent (kept : Keeping) (s : State) : Type 0 where
+  pub few_routers : length s.table.routers ≤ 32
+  -- a set for each of 32 router numbers
+  pub all_known : length s.known ≡ 32
+  pub all_advertised : length s.advertised ≡ 32
+  -- only declared paths are injected or known, and only by declared routers
+  pub injected_declared : AllDeclared s.table.paths s.injected
+  pub known_declared : (v : ℕ) → AllDeclared s.table.paths (set_of s.known v)
+  pub no_router : (v : ℕ) → length s.table.routers ≤ v → set_of s.known v ≡ 0
+  -- of its own exit paths a router knows exactly the injected ones
+  pub own : (p : ℕ) → p < length s.table.paths → member (set_of s.known (exit_of s.table p)) p ≡ member s.injected p
+  -- a router advertises what the rule keeps of what it knows
+  pub advertises : (v : ℕ) → set_of s.advertised v ≡ kept s.table.paths (set_of s.known v)
+
+-- a set of declared routers
+abbrev pub Declares : State → ℕ → Type 0
+Declares s w = (v : ℕ) → member w v ≡ true → v < length s.table.routers

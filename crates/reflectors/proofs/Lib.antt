@@ -1,0 +1,3 @@
+pub mod Traced
+pub mod Stepped
+pub mod Turns

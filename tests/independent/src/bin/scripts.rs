@@ -1,0 +1,180 @@
+//! `scripts [SCRIPTS [SEED]]`: random scripts, played by the program `replay` and by this package.
+//! Any difference ends it with status 1, and keeps the script and the tables that it loads.
+
+use independent::program::{run_in, Ran};
+use independent::promised::Watch;
+use independent::random::Random;
+use independent::replay::{message_start, replay, Replayed};
+use independent::script::Bad;
+use independent::script_counts::ScriptCounts;
+use independent::scripts::Script;
+use std::path::Path;
+use std::process::{self, exit};
+use std::sync::atomic::{AtomicBool, Ordering};
+use std::{env, fs, io, thread};
+
+const PROGRAM: &str = "REFLECTORS_REPLAY";
+const MOST_THREADS: usize = 4;
+
+fn main() {
+    let mut arguments = env::args().skip(1);
+    let mut argument = |otherwise| match arguments.next() {
+        None => otherwise,
+        Some(text) => text
+            .parse()
+            .unwrap_or_else(|_| stop("scripts [SCRIPTS [SEED]]")),
+    };
+    let scripts = argument(300);
+    let seed = argument(1);
+    // It runs in another folder.
+    let program = env::var(PROGRAM).ok().map(fs::canonicalize);
+    let program = match program {
+        Some(Ok(path)) => path.to_string_lossy().into_owned(),
+        _ => stop(&format!("{PROGRAM} names no program")),
+    };
+    let counts = compare(scripts, seed, &program).unwrap_or_else(|difference| stop(&difference));
+    counts.print();
+    if let Some(missing) = counts.missing() {
+        stop(missing);
+    }
+}
+
+fn stop(why: &str) -> ! {
+    eprintln!("{why}");
+    exit(1)
+}
+
+/// Plays all scripts, a few at a time. Which scripts are played does not turn on the threads.
+fn compare(scripts: u64, seed: u64, program: &str) -> Result<ScriptCounts, String> {
+    let threads = thread::available_parallelism().map_or(1, |count| count.get());
+    let threads = threads.min(MOST_THREADS);
+    let failed = AtomicBool::new(false);
+    let some = |first: usize| {
+        let mut counts = ScriptCounts::default();
+        for number in (first as u64..scripts).step_by(threads) {
+            if failed.load(Ordering::Relaxed) {
+                break;
+            }
+            if let Err(difference) = play(number, seed, program, &mut counts) {
+                failed.store(true, Ordering::Relaxed);
+                return Err(difference);
+            }
+        }
+        Ok(counts)
+    };
+    thread::scope(|scope| {
+        let some = &some;
+        let running: Vec<_> = (0..threads)
+            .map(|first| scope.spawn(move || some(first)))
+            .collect();
+        let mut counts = ScriptCounts::default();
+        let mut differences = Vec::new();
+        for thread in running {
+            match thread.join().expect("a thread ends") {
+                Ok(others) => counts.add(&others),
+                Err(found) => differences.push(found),
+            }
+        }
+        match differences.is_empty() {
+            true => Ok(counts),
+            false => Err(differences.join("\n")),
+        }
+    })
+}
+
+/// Plays one script in a folder of its own, which stays where there is a difference.
+fn play(number: u64, seed: u64, program: &str, counts: &mut ScriptCounts) -> Result<(), String> {
+    let script = Script::draw(&mut Random::numbered(seed, number));
+    let folder = format!("reflectors-{}-script-{number}", process::id());
+    let folder = env::temp_dir().join(folder);
+    write(&folder, &script).map_err(|error| format!("{}: {error}", folder.display()))?;
+    play_in(&folder, &script, program, counts).map_err(|what| {
+        let text = folder.join(SCRIPT);
+        format!(
+            "script {number} of seed {seed}: {what}\nit is kept in {}",
+            text.display()
+        )
+    })?;
+    fs::remove_dir_all(&folder).map_err(|error| format!("{}: {error}", folder.display()))
+}
+
+const SCRIPT: &str = "script";
+
+fn write(folder: &Path, script: &Script) -> io::Result<()> {
+    fs::create_dir_all(folder)?;
+    let tables = script.tables.all();
+    tables
+        .into_iter()
+        .try_for_each(|(name, table)| fs::write(folder.join(name), table))?;
+    fs::write(folder.join(SCRIPT), &script.text)
+}
+
+fn play_in(
+    folder: &Path,
+    script: &Script,
+    program: &str,
+    counts: &mut ScriptCounts,
+) -> Result<(), String> {
+    let own = own(folder, &script.text, counts)?;
+    let theirs = run_in(folder, program, script.text.as_bytes())?;
+    if theirs.printed != own.printed {
+        return Err(difference(&theirs.printed, &own.printed));
+    }
+    end(&theirs, &own)
+}
+
+/// What this package makes of the script, watched for what is promised of every run.
+fn own(folder: &Path, script: &str, counts: &mut ScriptCounts) -> Result<Replayed, String> {
+    let read = |file: &str| fs::read(folder.join(file));
+    let mut watch = Watch::default();
+    let mut broken = None;
+    let replayed = replay(script, &read, |played| {
+        counts.call(played);
+        if let (None, Err(what)) = (&broken, watch.call(played)) {
+            broken = Some(format!(
+                "this package breaks a promise: {what}, by:\n{played}"
+            ));
+        }
+    });
+    counts.script(&replayed, watch.seen);
+    broken.map_or(Ok(replayed), Err)
+}
+
+/// The first line that differs.
+fn difference(theirs: &str, own: &str) -> String {
+    let mut theirs = theirs.split_inclusive('\n');
+    let mut own = own.split_inclusive('\n');
+    for line in 1.. {
+        let (printed, expected) = (theirs.next(), own.next());
+        if printed != expected {
+            let [printed, expected] = [printed, expected].map(|line| line.unwrap_or("nothing"));
+            return format!("line {line} of what is printed is:\n{printed}\nand not:\n{expected}");
+        }
+    }
+    unreachable!("there is a difference")
+}
+
+/// How the program ends. The page fixes which line standard error names, and all of what it says
+/// where the first word is no call's.
+fn end(theirs: &Ran, own: &Replayed) -> Result<(), String> {
+    let message = &theirs.message;
+    let (line, bad) = match &own.bad {
+        None if theirs.succeeded => return Ok(()),
+        None => return Err(format!("the program fails: {message}")),
+        Some(bad) => bad,
+    };
+    let whole = own.message().expect("a line is bad") + "\n";
+    let is_so = match bad {
+        Bad::NoCall(_) => *message == whole,
+        _ => message.starts_with(&message_start(*line)),
+    };
+    if !is_so {
+        Err(format!("standard error has:\n{message}and not:\n{whole}"))
+    } else if theirs.succeeded {
+        Err(format!(
+            "the program ends with status 0, and with:\n{message}"
+        ))
+    } else {
+        Ok(())
+    }
+}
