@@ -366,6 +366,9 @@ network("a network that settles without it", WORKED, *LOST,
         ("settle", "done", {0: [0, 2], 1: [0, 2], 2: [0, 2], 3: [0, 2]}, True), *bests(True, "P0", "P0", "P0", "P0"),
         *traces("meets 0 1 leaves P0", "meets 1 leaves P0", "meets 2 0 1 leaves P0", "meets 3 2 0 1 leaves P0"),
         rests=[(0, 10), (0, 0), (0, 11), (0, 15)])
+network("a withdrawn path does not come back", WORKED, *LOST, ("step 3", "done", {}, False), ("step 2", "done", {2: [2]}, False),
+        ("step 3", "done", {}, False), ("step 0", "done", {0: [2]}, False), ("step 1", "done", {1: [0, 2]}, False), ("step 0", "done", {0: [0, 2]}, False),
+        ("step 2", "done", {2: [0, 2]}, False), ("step 3", "done", {3: [0, 2]}, True))
 # the routers of a step read their peers as they stood before it, and a router that is not named stays as it is
 network("steps of all at once", WORKED, *INJECTED, ("step 0 1 2 3", "done", {0: [0, 2], 2: [1]}, False),
         ("step 3 2 1 0", "done", {0: [1, 2], 2: [1, 2]}, False), ("step 0 1 2 3", "done", {1: [1, 2], 3: [1, 2]}, True),
