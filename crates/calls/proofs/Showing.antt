@@ -11,7 +11,7 @@ use Rattle.protocol.specs.Packets.{way_of}
 use Rattle.protocol.specs.Settled.{Settled}
 use Rattle.calls.specs.Calls.{Coming, loading, injecting, withdrawing, restarting, stepping, trace_bytes_at}
 use Rattle.calls.specs.Promise.{run_of, network_of, Shown}
-use Rattle.calls.specs.Turns.{of_coming, of_way, of_moves, answer_to, moves_of, met_after, offered, Run, at_rest, after_call, turned}
+use Rattle.calls.specs.Turns.{of_change, of_way, of_moves, answer_to, moves_of, met_after, offered, Run, at_rest, after_call, turned}
 use Rattle.calls.specs.declared.call.Answer.TheVariants.{Way as way_answer, Refused}
 use Rattle.calls.specs.declared.call.Call.{Call}
 use Rattle.calls.specs.declared.call.Call.TheVariants.{Load, Inject, Withdraw, Restart, Step, Settle, Reopen, Best, Trace}
@@ -20,7 +20,7 @@ use Rattle.calls.proofs.Appending.{run_more, network_more}
 use Rattle.calls.proofs.Tracing.{way_told}
 
 -- where what a call comes to is refused, nothing happens
-none_moves : (c : Coming) (fault : CallFault) → of_coming c ≡ Refused fault → of_moves c ≡ []
+none_moves : (c : Coming) (fault : CallFault) → of_change c ≡ Refused fault → of_moves c ≡ []
 none_moves (Ok m) fault e = cc
 none_moves (Err other) fault e = refl
 

@@ -15,9 +15,9 @@ use Rattle.calls.specs.declared.call.Call.TheVariants.{Load, Inject, Withdraw, R
 use Rattle.calls.specs.declared.call.Turn.{Turn}
 
 -- the answer of a call that changes the network
-abbrev pub of_coming : Coming → Answer
-of_coming (Ok m) = Done
-of_coming (Err fault) = Refused fault
+abbrev pub of_change : {X : Type 0} → Result X CallFault → Answer
+of_change (Ok x) = Done
+of_change (Err fault) = Refused fault
 
 abbrev pub of_best : Result (Option ℕ) CallFault → Answer
 of_best (Ok path) = best_answer path
@@ -34,11 +34,11 @@ of_moves (Err fault) = []
 
 -- what a call answers
 abbrev pub answer_to : State → Call → Answer
-answer_to s (Load bytes) = of_coming (loading bytes.now)
-answer_to s (Inject p) = of_coming (injecting s p)
-answer_to s (Withdraw p) = of_coming (withdrawing s p)
-answer_to s (Restart v) = of_coming (restarting s v)
-answer_to s (Step w) = of_coming (stepping s w)
+answer_to s (Load bytes) = of_change (loading bytes.now)
+answer_to s (Inject p) = of_change (injecting s p)
+answer_to s (Withdraw p) = of_change (withdrawing s p)
+answer_to s (Restart v) = of_change (restarting s v)
+answer_to s (Step w) = of_change (stepping s w)
 answer_to s Settle = Done
 answer_to s Reopen = Done
 answer_to s (Best v) = of_best (best_at s v)

@@ -7,7 +7,7 @@ use Rattle.layout.specs.declared.path.ExitPath.{ExitPath}
 use Rattle.peering.specs.declared.peering.Peering.{Peering}
 use Rattle.selection.specs.Laws.{Keeping, Laws, AllDeclared, declared_of}
 use Rattle.selection.proofs.DeclaredPart.{declared_same}
-use Rattle.protocol.specs.Consistent.{Fits}
+use Rattle.protocol.proofs.Fitting.{Fits}
 use Rattle.protocol.specs.Moves.{for_each, loaded, knowing}
 use Rattle.protocol.specs.Network.{State}
 use Rattle.protocol.proofs.Moving.{begun_fits}

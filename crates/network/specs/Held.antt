@@ -12,9 +12,9 @@ abbrev pub table_of : Option Peering → Declared
 table_of None = nothing
 table_of (Some p) = declared_by p.distances
 
-abbrev pub state_of : Held → State
-state_of h = record { table = table_of h.peering; injected = h.sets.injected; known = h.sets.known; advertised = h.sets.advertised }
-
 -- the network of a table with these sets
 abbrev pub state_with : Declared → Sets → State
 state_with t s = record { table = t; injected = s.injected; known = s.known; advertised = s.advertised }
+
+abbrev pub state_of : Held → State
+state_of h = state_with (table_of h.peering) h.sets

@@ -12,7 +12,6 @@ use rules::Rule;
 // is held changes, and so what is held changes at once.
 #[derive(Drop)]
 pub struct Network<R: Rule> {
-    // Both are read by contracts only.
     pub(crate) rule: R,
     pub(crate) held: Held,
     ghost consistent: { Consistent (R.kept rule) (state_of held) },

@@ -10,7 +10,8 @@ use Rattle.sets.specs.Members.{member, Subset}
 use Rattle.protocol.specs.Network.{set_of, learned}
 use Rattle.protocol.specs.Moves.{activated}
 use Rattle.protocol.specs.Settled.{Rounds}
-use Rattle.protocol.specs.Consistent.{Fits, Consistent}
+use Rattle.protocol.specs.Consistent.{Consistent}
+use Rattle.protocol.proofs.Fitting.{Fits}
 use Rattle.protocol.proofs.Levels.{level, upward, at_exit, no_higher, handed}
 use Rattle.protocol.proofs.Learning.{learned_from, learned_own, learned_peer}
 use Rattle.protocol.proofs.Activation.{knows_named, knows_other, known_by, stays_consistent}

@@ -15,7 +15,8 @@ use Rattle.sets.proofs.Emptiness.{empty_zero}
 use Rattle.sets.proofs.Smallest.{some_member}
 use Rattle.protocol.specs.Network.{State}
 use Rattle.protocol.specs.Settled.{Settled}
-use Rattle.protocol.specs.Consistent.{Fits, Consistent}
+use Rattle.protocol.specs.Consistent.{Consistent}
+use Rattle.protocol.proofs.Fitting.{Fits}
 use Rattle.protocol.specs.Packets.{best_of, AllLeave}
 
 module _ {kept : Keeping} (laws : Laws kept) {s : State} (fits : Fits s.table) (c : Consistent kept s) (settled : Settled kept s) where

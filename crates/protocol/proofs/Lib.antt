@@ -1,3 +1,4 @@
+pub mod Fitting
 pub mod Learning
 pub mod Levels
 pub mod Activation

@@ -17,7 +17,8 @@ use Rattle.sets.proofs.Digits.{member_none}
 use Rattle.sets.proofs.Single.{member_with, member_without}
 use Rattle.protocol.specs.Network.{State, set_of, own_of}
 use Rattle.protocol.specs.Moves.{for_each, loaded, begun, knowing, injected_at, withdrawn_at, restarted}
-use Rattle.protocol.specs.Consistent.{Fits, Consistent}
+use Rattle.protocol.specs.Consistent.{Consistent}
+use Rattle.protocol.proofs.Fitting.{Fits}
 use Rattle.protocol.proofs.Learning.{own_from, own_has}
 use Rattle.protocol.proofs.Activation.{for_each_at, length_for_each, past, kept_nothing, same_truth}
 

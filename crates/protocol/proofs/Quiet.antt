@@ -10,7 +10,8 @@ use Rattle.protocol.specs.Network.{set_of, learned}
 use Rattle.protocol.specs.Moves.{activated, after_all}
 use Rattle.protocol.specs.Settled.{Settled, Round, Rounds, named}
 use Rattle.protocol.specs.Settled.Rounds.{begins, then}
-use Rattle.protocol.specs.Consistent.{Fits, Consistent}
+use Rattle.protocol.specs.Consistent.{Consistent}
+use Rattle.protocol.proofs.Fitting.{Fits}
 use Rattle.protocol.proofs.Activation.{knows_named, knows_other, tells_named, tells_other, stays_consistent}
 use Rattle.protocol.proofs.Rising.{Below, at, after, later}
 use Rattle.protocol.proofs.Settling.{settles}

@@ -9,7 +9,8 @@ use Rattle.sets.proofs.Single.{member_one}
 use Rattle.protocol.specs.Moves.{one_by_one, all_of}
 use Rattle.protocol.specs.Settled.{Settled, Round, Rounds, named}
 use Rattle.protocol.specs.Settled.Rounds.{begins, then}
-use Rattle.protocol.specs.Consistent.{Fits, Consistent}
+use Rattle.protocol.specs.Consistent.{Consistent}
+use Rattle.protocol.proofs.Fitting.{Fits}
 use Rattle.protocol.proofs.Rising.{Below, below_front, at, after, after_is}
 use Rattle.protocol.proofs.Settling.{more_after, consistent_after, settles}
 use Rattle.protocol.proofs.Quiet.{same_sets}

@@ -1,7 +1,8 @@
 -- What is promised of whole runs. Assumes nothing.
 use Rattle.std.proofs.Common.{◌≡◌, ℕ, List, [], ◌∷◌, ◌++◌, length, sym, refl, ap, ◌∙◌, subst}
 use Rattle.selection.specs.Laws.{Keeping, Laws}
-use Rattle.protocol.specs.Consistent.{Fits, Consistent}
+use Rattle.protocol.specs.Consistent.{Consistent}
+use Rattle.protocol.proofs.Fitting.{Fits}
 use Rattle.protocol.specs.Moves.{Move, begun, moved, after_all, activated}
 use Rattle.protocol.specs.Moves.Move.{Loaded, Injected, Withdrawn, Restarted, Activated}
 use Rattle.costs.specs.Cost.{plain}

@@ -10,7 +10,8 @@ use Rattle.protocol.specs.Network.{set_of}
 use Rattle.protocol.specs.Moves.{activated, after_all}
 use Rattle.protocol.specs.Settled.{Settled, Rounds}
 use Rattle.protocol.specs.Settled.Rounds.{begins, then}
-use Rattle.protocol.specs.Consistent.{Fits, Consistent}
+use Rattle.protocol.specs.Consistent.{Consistent}
+use Rattle.protocol.proofs.Fitting.{Fits}
 use Rattle.protocol.proofs.Activation.{stays_consistent}
 use Rattle.protocol.proofs.Flushing.{flushed}
 use Rattle.protocol.proofs.Filling.{Flushed, goes_on, filled}

@@ -10,7 +10,8 @@ use Rattle.sets.specs.Members.{member, Subset}
 use Rattle.protocol.specs.Network.{set_of, learned}
 use Rattle.protocol.specs.Moves.{activated, after_all}
 use Rattle.protocol.specs.Settled.{Settled}
-use Rattle.protocol.specs.Consistent.{Fits, Consistent}
+use Rattle.protocol.specs.Consistent.{Consistent}
+use Rattle.protocol.proofs.Fitting.{Fits}
 use Rattle.protocol.proofs.Levels.{handed}
 use Rattle.protocol.proofs.Learning.{learned_from, learned_own, learned_peer}
 use Rattle.protocol.proofs.Activation.{tells_named, tells_other, stays_consistent}

@@ -1,17 +1,9 @@
 -- What every network keeps, whatever is asked of it. Assumes nothing.
 use Rattle.std.specs.Prelude.{◌≡◌, ℕ, ◌<◌, ◌≤◌, true, length}
-use Rattle.layout.specs.Table.{Declared}
-use Rattle.layout.specs.WellFormed.{Connected, Led, Sound}
 use Rattle.packets.specs.Best.{exit_of}
 use Rattle.selection.specs.Laws.{Keeping, AllDeclared}
 use Rattle.sets.specs.Members.{member}
 use Rattle.protocol.specs.Network.{State, set_of}
-
--- a table that a network has: a well-formed one, or that in which nothing is declared
-pub record Fits (t : Declared) : Type 0 where
-  pub sound : Sound t
-  pub led : Led t.routers
-  pub connected : Connected t
 
 pub record Consistent (kept : Keeping) (s : State) : Type 0 where
   pub few_routers : length s.table.routers ≤ 32

@@ -8,13 +8,12 @@ use Rattle.protocol.specs.Network.{State}
 use Rattle.protocol.specs.Runs.{AllCome}
 use Rattle.protocol.specs.Moves.{after_all}
 use Rattle.calls.specs.Calls.{Coming, done}
-use Rattle.calls.specs.Turns.{of_coming, of_moves, answer_to, moves_of, met_after, offered, at_rest, after_call, turned}
+use Rattle.calls.specs.Turns.{of_change, of_moves, answer_to, moves_of, met_after, offered, at_rest, after_call, turned}
 use Rattle.calls.specs.declared.call.Answer.{Answer}
 use Rattle.calls.specs.declared.call.Call.{Call}
 use Rattle.calls.specs.declared.call.Call.TheVariants.{Load, Inject, Withdraw, Restart, Step, Settle, Reopen, Best, Trace}
 use Rattle.calls.specs.declared.call.Outcome.{Outcome}
 use Rattle.calls.specs.declared.call.Turn.{Turn}
-use Rattle.reflectors.specs.Answered.{answered}
 
 -- what was answered to a call, and the rule and the network afterwards
 pub record Took (kept : Keeping) (s : State) (call : Call) (kept' : Keeping) (x : State) (answer : Answer) : Type 0 where
@@ -24,15 +23,15 @@ pub record Took (kept : Keeping) (s : State) (call : Call) (kept' : Keeping) (x 
 
 module _ (kept : Keeping) (s : State) where
   -- the answer of a call that changes the network, and the network afterwards
-  changed : (come : Coming) (r : Result ⊤ CallFault) (x : State) → (r, x) ≡ done kept s come → (answered r ≡ of_coming come) × (x ≡ after_all kept s (of_moves come))
+  changed : (come : Coming) (r : Result ⊤ CallFault) (x : State) → (r, x) ≡ done kept s come → (of_change r ≡ of_change come) × (x ≡ after_all kept s (of_moves come))
   unfolding after_all
-  changed (Ok m) r x is = (ap (λ (y : Result ⊤ CallFault × State). answered y.0) is, ap (λ (y : Result ⊤ CallFault × State). y.1) is)
-  changed (Err fault) r x is = (ap (λ (y : Result ⊤ CallFault × State). answered y.0) is, ap (λ (y : Result ⊤ CallFault × State). y.1) is)
+  changed (Ok m) r x is = (ap (λ (y : Result ⊤ CallFault × State). of_change y.0) is, ap (λ (y : Result ⊤ CallFault × State). y.1) is)
+  changed (Err fault) r x is = (ap (λ (y : Result ⊤ CallFault × State). of_change y.0) is, ap (λ (y : Result ⊤ CallFault × State). y.1) is)
 
   module _ (call : Call) {kept' : Keeping} {x : State} {answer : Answer} (rule : kept' ≡ kept) where
     pub took_change :
-        (come : Coming) (r : Result ⊤ CallFault) → answer_to s call ≡ of_coming come → moves_of s call ≡ of_moves come →
-        answer ≡ answered r → (r, x) ≡ done kept s come → Took kept s call kept' x answer
+        (come : Coming) (r : Result ⊤ CallFault) → answer_to s call ≡ of_change come → moves_of s call ≡ of_moves come →
+        answer ≡ of_change r → (r, x) ≡ done kept s come → Took kept s call kept' x answer
     took_change come r asks moves said is =
         let both = changed come r x is in
         record { answers = said ∙ both.0 ∙ sym asks; leaves = both.1 ∙ ap (after_all kept s) (sym moves); rule = rule }

@@ -1,10 +1,9 @@
 ghost use Rattle.std.specs.Prelude.{◌≡◌, true, false, cond};
 ghost use Rattle.calls.specs.Promise.{run_of, network_of, Plays};
-ghost use Rattle.calls.specs.Turns.{of_coming, of_best, of_way, moves_of, offered, settled_after, after_call, turned};
+ghost use Rattle.calls.specs.Turns.{of_change, of_best, of_way, moves_of, offered, settled_after, after_call, turned};
 ghost use Rattle.network.specs.Held.{state_of};
 ghost use Rattle.protocol.specs.Runs.{AllCome};
 ghost use Rattle.reflectors.specs.Reached.{rule_in, state_in, is_settled};
-ghost use Rattle.reflectors.specs.Answered.{answered};
 
 use crate::reached::Reached;
 use crate::running::Running;
@@ -23,7 +22,7 @@ pub struct Played<R: Rule> {
 
 // What a change or a step answered.
 fn answered(done: Result<(), CallFault>) -> Answer
-    ensures { result ≡ answered done }
+    ensures { result ≡ of_change done }
 {
     match done {
         Ok(()) => Answer::Done,

@@ -14,14 +14,12 @@ mod script;
 use crate::script::{Entry, Script, turns};
 use anyhow::{Error, anyhow};
 use calls::Turn;
+use listing::MOST_BYTES;
 use reflectors::{Played, Reached, play};
 use rules::FiveStage;
 use std::io;
 use std::io::{BufWriter, Read, Write};
 use std::process::ExitCode;
-
-// The most bytes that a list takes.
-const MOST_BYTES: usize = 512;
 
 // Plays the calls in their order, on a network that begins empty.
 fn played(turns: &mut [Turn]) -> Played<FiveStage>

@@ -3,6 +3,7 @@
 // bytes it prints nothing.
 #![tactic(auto)]
 
+use listing::MOST_BYTES;
 use reflectors::{Running, Settled};
 use rules::FiveStage;
 use sets::RouterSet;
@@ -75,7 +76,7 @@ fn run(rt: &HostRuntime) -> anyhow::Result<()> {
     let table = Table::read(bytes.as_slice())?;
     let all = u32::from(RouterSet::first(table.routers().len() as u32));
     let mut network = settled(bytes.as_slice(), table.paths().len() as u32)?;
-    let mut buffer = [0; 512];
+    let mut buffer = [0; MOST_BYTES];
     let mut least = Least {
         step_all: Duration::MAX,
         step_one: Duration::MAX,
