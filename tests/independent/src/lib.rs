@@ -11,6 +11,7 @@ pub mod encode;
 pub mod forwarding;
 pub mod laws;
 pub mod lines;
+pub mod many;
 pub mod nearest;
 pub mod network;
 pub mod passing;

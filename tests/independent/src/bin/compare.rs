@@ -9,27 +9,16 @@ use independent::cases::{difference, hexadecimal, Line};
 use independent::counts::Counts;
 use independent::direct::{direct, direct_with, NO_PATH};
 use independent::lines::lines;
+use independent::many::{arguments, play_all, stop};
 use independent::program::run;
 use independent::random::Random;
 use independent::rules::five_stage;
 use independent::table::{self, Table};
 use independent::{encode, laws, nearest, tables, ways};
-use std::process::exit;
-use std::sync::atomic::{AtomicBool, Ordering};
-use std::{env, thread};
-
-const MOST_THREADS: usize = 4;
+use std::env;
 
 fn main() {
-    let mut arguments = env::args().skip(1);
-    let mut argument = |otherwise| match arguments.next() {
-        None => otherwise,
-        Some(text) => text
-            .parse()
-            .unwrap_or_else(|_| stop("compare [TABLES [SEED]]")),
-    };
-    let tables = argument(20_000);
-    let seed = argument(1);
+    let (tables, seed) = arguments("compare [TABLES [SEED]]", 20_000);
     let program =
         |name| env::var(name).unwrap_or_else(|_| stop(&format!("{name} names no program")));
     let programs = Programs {
@@ -43,43 +32,17 @@ fn main() {
     }
 }
 
-fn stop(why: &str) -> ! {
-    eprintln!("{why}");
-    exit(1)
-}
-
 struct Programs {
     settle: String,
     cases: String,
 }
 
-/// Plays all tables, a few at a time. Which tables are played does not turn on the threads.
 fn compare(tables: u64, seed: u64, programs: &Programs) -> Result<Counts, String> {
-    let threads = thread::available_parallelism().map_or(1, |count| count.get());
-    let threads = threads.min(MOST_THREADS);
-    let failed = AtomicBool::new(false);
-    let some = |first: usize| {
-        let numbers = (first as u64..tables).step_by(threads);
-        let unless_failed = numbers.take_while(|_| !failed.load(Ordering::Relaxed));
-        let counts = play(unless_failed, seed, programs);
-        failed.fetch_or(counts.is_err(), Ordering::Relaxed);
-        counts
-    };
-    thread::scope(|scope| {
-        let some = &some;
-        let running: Vec<_> = (0..threads)
-            .map(|first| scope.spawn(move || some(first)))
-            .collect();
-        let mut counts = Counts::default();
-        let mut difference = None;
-        for thread in running {
-            match thread.join().expect("a thread ends") {
-                Ok(others) => counts.add(&others),
-                Err(found) => difference = Some(found),
-            }
-        }
-        difference.map_or(Ok(counts), Err)
-    })
+    let mut counts = Counts::default();
+    for others in play_all(tables, |numbers| play(numbers, seed, programs))? {
+        counts.add(&others);
+    }
+    Ok(counts)
 }
 
 /// Plays the tables of these numbers, and at last their lines for `cases`, in one run of it.

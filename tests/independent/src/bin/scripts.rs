@@ -1,6 +1,7 @@
 //! `scripts [SCRIPTS [SEED]]`: random scripts, played by the program `replay` and by this package.
 //! Any difference ends it with status 1, and keeps the script and the tables that it loads.
 
+use independent::many::{arguments, play_all, stop};
 use independent::program::{run_in, Ran};
 use independent::promised::Watch;
 use independent::random::Random;
@@ -9,23 +10,12 @@ use independent::script::Bad;
 use independent::script_counts::ScriptCounts;
 use independent::scripts::Script;
 use std::path::Path;
-use std::process::{self, exit};
-use std::sync::atomic::{AtomicBool, Ordering};
-use std::{env, fs, io, thread};
+use std::{env, fs, io, process};
 
 const PROGRAM: &str = "REFLECTORS_REPLAY";
-const MOST_THREADS: usize = 4;
 
 fn main() {
-    let mut arguments = env::args().skip(1);
-    let mut argument = |otherwise| match arguments.next() {
-        None => otherwise,
-        Some(text) => text
-            .parse()
-            .unwrap_or_else(|_| stop("scripts [SCRIPTS [SEED]]")),
-    };
-    let scripts = argument(300);
-    let seed = argument(1);
+    let (scripts, seed) = arguments("scripts [SCRIPTS [SEED]]", 300);
     // It runs in another folder.
     let program = env::var(PROGRAM).ok().map(fs::canonicalize);
     let program = match program {
@@ -39,47 +29,19 @@ fn main() {
     }
 }
 
-fn stop(why: &str) -> ! {
-    eprintln!("{why}");
-    exit(1)
-}
-
-/// Plays all scripts, a few at a time. Which scripts are played does not turn on the threads.
 fn compare(scripts: u64, seed: u64, program: &str) -> Result<ScriptCounts, String> {
-    let threads = thread::available_parallelism().map_or(1, |count| count.get());
-    let threads = threads.min(MOST_THREADS);
-    let failed = AtomicBool::new(false);
-    let some = |first: usize| {
+    let mut counts = ScriptCounts::default();
+    let played = play_all(scripts, |numbers| {
         let mut counts = ScriptCounts::default();
-        for number in (first as u64..scripts).step_by(threads) {
-            if failed.load(Ordering::Relaxed) {
-                break;
-            }
-            if let Err(difference) = play(number, seed, program, &mut counts) {
-                failed.store(true, Ordering::Relaxed);
-                return Err(difference);
-            }
+        for number in numbers {
+            play(number, seed, program, &mut counts)?;
         }
         Ok(counts)
-    };
-    thread::scope(|scope| {
-        let some = &some;
-        let running: Vec<_> = (0..threads)
-            .map(|first| scope.spawn(move || some(first)))
-            .collect();
-        let mut counts = ScriptCounts::default();
-        let mut differences = Vec::new();
-        for thread in running {
-            match thread.join().expect("a thread ends") {
-                Ok(others) => counts.add(&others),
-                Err(found) => differences.push(found),
-            }
-        }
-        match differences.is_empty() {
-            true => Ok(counts),
-            false => Err(differences.join("\n")),
-        }
-    })
+    });
+    for others in played? {
+        counts.add(&others);
+    }
+    Ok(counts)
 }
 
 /// Plays one script in a folder of its own, which stays where there is a difference.
