@@ -15,7 +15,7 @@ import sys
 from pathlib import Path
 
 ROOT = Path(__file__).resolve().parent.parent / "crates" / "cases"
-PROVED = 23
+PROVED = 26
 
 CLIENT, REFLECTOR = 0, 1
 CASES = []

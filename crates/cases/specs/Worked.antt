@@ -11,11 +11,12 @@ use Rattle.layout.specs.Reading.{table_in}
 use Rattle.layout.specs.Table.{Declared}
 use Rattle.packets.specs.Best.{best, metric}
 use Rattle.packets.specs.Ways.{way}
+use Rattle.packets.specs.WaysPlain.{links_cost}
 use Rattle.protocol.specs.Moves.{loaded}
 use Rattle.protocol.specs.Network.{State}
 use Rattle.protocol.specs.Packets.{best_of, way_of}
 use Rattle.selection.specs.Laws.{Keeping, Laws, declared_of}
-use Rattle.selection.specs.Stages.{keep_compare_always, keep_five_stage}
+use Rattle.selection.specs.Stages.{keep_all, keep_compare_always, keep_five_stage}
 
 pub data Case : Type 0 where
   -- the table of these bytes is refused with this number at this place
@@ -28,6 +29,8 @@ pub data Case : Type 0 where
   takes : List ℕ → List ℕ → List ℕ → Case
   -- a packet from a router, where all take their best of these paths, meets these routers and leaves by this path
   meets : List ℕ → ℕ → List ℕ → ℕ → Case
+  -- the links from a router over these others, from each to the next, cost so much
+  spends : ℕ → List ℕ → ℕ → Case
   -- after these calls on the network of the worked table, in which all paths were injected, the routers know these paths, one set each
   knows : List Call → List (List ℕ) → Case
   -- and then they advertise these
@@ -115,6 +118,7 @@ Holds (keeps kept given answer) = OfWorked (λ t. kept_of kept t (set_of given) 
 Holds (breaks kept) = OfWorked (λ t. Laws (kept t) → ⊥) (table_in worked_table)
 Holds (takes given paths metrics) = OfWorked (λ t. (best_paths t (set_of given) ≡ map Some paths) × (best_metrics t (set_of given) ≡ map Some metrics)) (table_in worked_table)
 Holds (meets given from met path) = OfWorked (λ t. way plain t (set_of given) from ≡ Some (met, path)) (table_in worked_table)
+Holds (spends from met metric) = OfWorked (λ t. links_cost plain t from met ≡ metric) (table_in worked_table)
 Holds (knows calls sets) = OfWorked (λ t. take (length t.routers) (network_after calls t).known ≡ map set_of sets) (table_in worked_table)
 Holds (advertises calls sets) = OfWorked (λ t. take (length t.routers) (network_after calls t).advertised ≡ map set_of sets) (table_in worked_table)
 Holds (picks calls found) = OfWorked (λ t. choices (network_after calls t) ≡ found) (table_in worked_table)
@@ -146,11 +150,14 @@ worked =
     ∷ keeps (λ _. keep_five_stage) (0 ∷ 2 ∷ []) (0 ∷ 2 ∷ [])
     ∷ keeps (λ _. keep_compare_always) (0 ∷ 1 ∷ 2 ∷ []) (1 ∷ [])
     ∷ keeps (λ _. keep_compare_always) (0 ∷ 2 ∷ []) (0 ∷ [])
+    ∷ keeps (λ _. keep_all) (0 ∷ 2 ∷ 5 ∷ []) (0 ∷ 2 ∷ [])
     ∷ takes (1 ∷ 2 ∷ []) (1 ∷ 2 ∷ 1 ∷ 1 ∷ []) (5 ∷ 3 ∷ 4 ∷ 0 ∷ [])
     ∷ meets (1 ∷ 2 ∷ []) 0 (0 ∷ 2 ∷ 3 ∷ []) 1
+    ∷ spends 0 (2 ∷ 3 ∷ []) 5
     ∷ takes (0 ∷ 2 ∷ []) (0 ∷ 0 ∷ 0 ∷ 0 ∷ []) (10 ∷ 0 ∷ 11 ∷ 15 ∷ [])
     ∷ keeps (keep_best 1) (0 ∷ 1 ∷ 2 ∷ []) (2 ∷ [])
     ∷ keeps (keep_best 1) (0 ∷ 2 ∷ []) (0 ∷ [])
+    ∷ keeps (keep_best 1) [] []
     ∷ breaks (keep_best 1)
     ∷ knows one_step ((0 ∷ 2 ∷ []) ∷ (0 ∷ 2 ∷ []) ∷ [] ∷ (1 ∷ []) ∷ [])
     ∷ picks one_step (Some (0, 10) ∷ Some (0, 0) ∷ None ∷ Some (1, 0) ∷ [])

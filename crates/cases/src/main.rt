@@ -25,7 +25,7 @@ fn worked_cases() -> usize
     ensures hold { All Holds worked }
     ensures count { result ≡ length worked }
 {
-    23
+    26
 }
 
 // The value of a hexadecimal digit in upper case; `to_digit` would take lower case too.

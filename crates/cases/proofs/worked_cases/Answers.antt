@@ -34,4 +34,4 @@ pub returns : goal.returns
 unfolding member joined some those by_links over best_below course for_each after_all all_of
 returns c =
     let no_rule = broken (keep_best 1) (table_in worked_table) (refl, refl, refl) in
-    record { hold = All-from_recursion Holds worked (refl, (refl, (refl, (refl, (refl, (refl, (refl, (refl, ((refl, refl), (refl, ((refl, refl), (refl, (refl, (no_rule, (refl, (refl, (refl, (refl, (refl, (refl, (refl, (refl, (refl, tt))))))))))))))))))))))); count = refl }
+    record { hold = All-from_recursion Holds worked (refl, (refl, (refl, (refl, (refl, (refl, (refl, (refl, (refl, ((refl, refl), (refl, (refl, ((refl, refl), (refl, (refl, (refl, (no_rule, (refl, (refl, (refl, (refl, (refl, (refl, (refl, (refl, (refl, tt)))))))))))))))))))))))))); count = refl }
