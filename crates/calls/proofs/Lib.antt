@@ -1,7 +1,6 @@
 pub mod Coming
 pub mod Appending
 pub mod Staying
-pub mod RunsCome
 pub mod AtRest
 pub mod Tracing
 pub mod Showing

@@ -14,7 +14,6 @@ use Rattle.calls.specs.declared.call.Call.TheVariants.{Trace}
 use Rattle.calls.specs.declared.call.Turn.{Turn}
 use Rattle.calls.proofs.Appending.{moves_first, goes_on, stops}
 use Rattle.calls.proofs.AtRest.{tells}
-use Rattle.calls.proofs.RunsCome.{MadeTyped, run_comes}
 use Rattle.calls.proofs.Showing.{shown_turn}
 use Rattle.calls.proofs.Staying.{run_keeps}
 use Rattle.calls.proofs.Tracing.{traced_turn, turn_at}
@@ -69,7 +68,3 @@ module _ {kept : Keeping} (laws : Laws kept) where
               subst (λ (ts : List Turn). Traced (network_of kept front) v t (get_or (run_of kept ts).turns (length front) t)) (sym whole)
               (traced_next front (come_so_far front (t ∷ back) whole) back t v q made flag asks below in_it);
         }
-
-  -- where the numbers of the calls that were made are of their types
-  pub plays_typed : (turns : List Turn) → MadeTyped kept turns (run_of kept turns) → Plays kept turns
-  plays_typed turns typed = plays turns (run_comes kept turns false begun typed)

@@ -1,20 +1,12 @@
 -- What the laws of a cost give for its order and for the lesser of two. Assumes nothing.
-use Rattle.std.proofs.Common.{◌≡◌, ◌⊎◌, subst, inl, inr, ⊎_elim}
-use Rattle.std.proofs.lemmas.Bool.{both_ways, cases_Bool, or_cases, cond-true, cond-false, cond_both}
+use Rattle.std.proofs.Common.{◌≡◌, ◌⊎◌, subst, ⊎_elim}
+use Rattle.std.proofs.lemmas.Bool.{both_ways, cases_Bool, or_cases, cond_both}
 use Rattle.costs.specs.Cost.{Cost, CostLaws, Fits, AtMost, Less, lesser}
 
 module _ {C : Type 0} {cost : Cost C} (laws : CostLaws cost) where
   -- what is true of a or of b is true of the lesser of them
   pub lesser_keeps : (P : C → Type 0) (a b : C) → P a → P b → P (lesser cost a b)
   lesser_keeps P a b h g = cond_both (cost.at_most a b) a b P (λ _. h) (λ _. g)
-
-  pub lesser_fits : (a b : C) → Fits cost a → Fits cost b → Fits cost (lesser cost a b)
-  lesser_fits a b h g = lesser_keeps (Fits cost) a b h g
-
-  -- the lesser is one of the two
-  pub lesser_cases : (a b : C) → (lesser cost a b ≡ a) ⊎ (lesser cost a b ≡ b)
-  lesser_cases a b =
-      ⊎_elim (λ e. inl (cond-true (cost.at_most a b) a b e)) (λ e. inr (cond-false (cost.at_most a b) a b e)) (cases_Bool (cost.at_most a b))
 
   pub at_most_refl : (a : C) → AtMost cost a a
   at_most_refl a = ⊎_elim (λ h. h) (λ h. h) (or_cases (cost.at_most a a) (cost.at_most a a) (laws.total a a))
@@ -36,9 +28,6 @@ module _ {C : Type 0} {cost : Cost C} (laws : CostLaws cost) where
   pub less_irreflexive : (a : C) → Less cost a a → ⊥
   less_irreflexive a h = not_less a a (at_most_refl a) h
 
-  pub at_most_from_not_less : (a b : C) → (Less cost b a → ⊥) → AtMost cost a b
-  at_most_from_not_less a b h = ⊎_elim (λ g. g) (λ g. absurd (h g)) (at_most_or_less a b)
-
   pub less_from_not_at_most : (a b : C) → (AtMost cost a b → ⊥) → Less cost b a
   less_from_not_at_most a b h = ⊎_elim (λ g. absurd (h g)) (λ g. g) (at_most_or_less a b)
 
@@ -50,13 +39,6 @@ module _ {C : Type 0} {cost : Cost C} (laws : CostLaws cost) where
 
   pub less_then_less : (a b c : C) → Less cost a b → Less cost b c → Less cost a c
   less_then_less a b c h g = less_then_at_most a b c h (at_most_from_less b c g)
-
-  -- a cost that is no more than another is less, or the same
-  pub less_or_same : (a b : C) → AtMost cost a b → Less cost a b ⊎ (a ≡ b)
-  less_or_same a b h = ⊎_elim (λ g. inr (laws.no_tie a b h g)) (λ g. inl g) (at_most_or_less b a)
-
-  pub less_from_different : (a b : C) → AtMost cost a b → (a ≡ b → ⊥) → Less cost a b
-  less_from_different a b h d = ⊎_elim (λ g. g) (λ e. absurd (d e)) (less_or_same a b h)
 
   -- the lesser is no more than either
   pub lesser_first : (a b : C) → AtMost cost (lesser cost a b) a

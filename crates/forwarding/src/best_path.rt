@@ -1,9 +1,9 @@
-ghost use Rattle.std.specs.Prelude.{◌≡◌, ◌+◌, ◌*◌, ◌^◌, ◌<◌, ◌≤◌, length, IfOk, slice_index};
+ghost use Rattle.std.specs.Prelude.{◌≡◌, ℕ, ◌+◌, ◌*◌, ◌^◌, ◌<◌, ◌≤◌, length, IfOk, Some, slice_index};
 ghost use Rattle.costs.specs.Cost.{plain};
 ghost use Rattle.distances.specs.Answered.{declared_by};
 ghost use Rattle.forwarding.specs.Answers.{best_answer, metric_answer};
 ghost use Rattle.forwarding.specs.Ranks.{rank_of};
-ghost use Rattle.packets.specs.BestPlain.{BestIs};
+ghost use Rattle.packets.specs.BestPlain.{Best, BestIs};
 
 use distances::Distances;
 use faults::CallFault;
@@ -38,6 +38,7 @@ fn rank(router: u32, row: &[u32], path: ExitPath) -> u64
 pub fn best(distances: &Distances, router: u32, set: PathSet) -> Result<Option<u8>, CallFault>
     ensures value { result ≡ best_answer (declared_by distances.now) set router }
     ensures plain { IfOk result (BestIs plain (declared_by distances.now) set router) }
+    ensures only { IfOk result (λ path. (p : ℕ) → Best plain (declared_by distances.now) set router p → path ≡ Some p) }
 {
     let row = distances.row(router)?;
     let paths = distances.table().paths();

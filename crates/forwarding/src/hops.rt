@@ -1,9 +1,9 @@
-ghost use Rattle.std.specs.Prelude.{◌≡◌, ◌<◌, length, IfOk};
+ghost use Rattle.std.specs.Prelude.{◌≡◌, ℕ, ◌<◌, length, IfOk, Some};
 ghost use Rattle.costs.specs.Cost.{plain};
 ghost use Rattle.costs.specs.Least.{distance};
 ghost use Rattle.distances.specs.Answered.{declared_by};
 ghost use Rattle.forwarding.specs.Answers.{hop_answer};
-ghost use Rattle.packets.specs.Hops.{other_end, lead_along, HopIs};
+ghost use Rattle.packets.specs.Hops.{other_end, lead_along, NextHop, HopIs};
 
 use costs::join;
 use distances::Distances;
@@ -41,6 +41,7 @@ fn along(distances: &Distances, link: Link, from: u32, towards: u32, whole: u32)
 pub fn next_hop(distances: &Distances, from: u32, towards: u32) -> Result<Option<u8>, CallFault>
     ensures value { result ≡ hop_answer (declared_by distances.now) from towards }
     ensures plain { IfOk result (HopIs plain (declared_by distances.now) from towards) }
+    ensures only { IfOk result (λ next. (w : ℕ) → w < length (declared_by distances.now).routers → NextHop plain (declared_by distances.now) from towards w → next ≡ Some w) }
 {
     let whole = distances.between(from, towards)?;
     let links = distances.table().links();

@@ -1,11 +1,10 @@
 -- The reading of a table, one record after another. Assumes nothing.
 use Rattle.std.proofs.Common.{◌≡◌, ℕ, ◌+◌, ◌<◌, List, [], ◌∷◌, drop, Ok, Err, sym, refl, ap, ◌∙◌, subst, one-add, arith}
 use Rattle.std.proofs.lemmas.List.Elements.{All-drop, All-tail, All-take}
-use Rattle.faults.specs.declared.load.LoadFault.TheVariants.{Record, Table}
-use Rattle.faults.specs.declared.record.RecordFault.{RecordFault}
+use Rattle.faults.specs.declared.load.LoadFault.TheVariants.{Table}
 use Rattle.faults.specs.declared.table.TableFault.{TableFault}
 use Rattle.records.specs.Kinds.{kind_byte, body_length}
-use Rattle.records.specs.Readings.{ended, found, refused, reading_at, Standing, reading, passing}
+use Rattle.records.specs.Readings.{ended, found, reading_at, Standing, reading, passing}
 use Rattle.records.specs.declared.kind.Kind.{Kind}
 use Rattle.layout.specs.Bodies.{adding}
 use Rattle.layout.specs.Checks.{declaring}
@@ -15,7 +14,7 @@ use Rattle.layout.specs.Table.{Declared, nothing}
 use Rattle.layout.proofs.KindBytes.{Found, Read, read}
 use Rattle.layout.proofs.Promised.{nothing_sound}
 use Rattle.layout.proofs.Records.{Bytes}
-use Rattle.layout.proofs.Steps.{read_ended, read_refused, read_fault, read_on, ended_not_found}
+use Rattle.layout.proofs.Steps.{read_ended, read_fault, read_on, ended_not_found}
 use Rattle.layout.proofs.Tells.{Front, front_on, told}
 use Rattle.layout.proofs.Verdicts.{DeclaringTells, declaring_tells}
 
@@ -37,9 +36,6 @@ found_in before place (b ∷ more) p k body e = (b, more, refl, subst (Read befo
 module _ (bs : List ℕ) (t : Declared) (s : Standing) (h : Progress bs t s) where
   pub ends : ended ≡ reading s → of_graph (whole t) ≡ table_in bs
   ends e = sym (read_ended t s.before s.place s.rest (sym e)) ∙ h.same
-
-  pub refuses : (fault : RecordFault) → refused fault ≡ reading s → Err (Record fault) ≡ table_in bs
-  refuses fault e = sym (read_refused t s.before s.place s.rest fault (sym e)) ∙ h.same
 
   module _ (p : ℕ) (k : Kind) (body : List ℕ) (there : found p k body ≡ reading s) where
     pub breaks : (fault : TableFault) → Err fault ≡ declaring t p k body → Err (Table fault) ≡ table_in bs

@@ -1,10 +1,9 @@
 -- Reading on over one record. Assumes nothing.
 use Rattle.std.proofs.Common.{◌≡◌, ℕ, zero, suc, ◌+◌, ◌≤◌, List, [], ◌∷◌, length, drop, Ok, Err, sym, refl, ap, ◌∙◌, subst, one-add, arith}
-use Rattle.faults.specs.declared.load.LoadFault.TheVariants.{Record, Table}
-use Rattle.faults.specs.declared.record.RecordFault.{RecordFault}
+use Rattle.faults.specs.declared.load.LoadFault.TheVariants.{Table}
 use Rattle.faults.specs.declared.table.TableFault.{TableFault}
 use Rattle.records.specs.Kinds.{kind_byte, body_length}
-use Rattle.records.specs.Readings.{ended, found, refused, reading_at}
+use Rattle.records.specs.Readings.{ended, found, reading_at}
 use Rattle.records.specs.declared.kind.Kind.{Kind}
 use Rattle.layout.specs.Checks.{declaring}
 use Rattle.layout.specs.Graph.{whole}
@@ -21,18 +20,11 @@ read_skip (suc n) t before place (b ∷ bs) h = read_skip n t before place bs (o
 pub ended_not_found : (p : ℕ) (k : Kind) (body : List ℕ) → ended ≡ found p k body → ⊥
 ended_not_found p k body e = let z : ◌≡◌ {A = ℕ} 0 1 = cc in omega arith
 
-ended_not_refused : (fault : RecordFault) → ended ≡ refused fault → ⊥
-ended_not_refused fault e = let z : ◌≡◌ {A = ℕ} 0 1 = cc in omega arith
-
 module _ (t : Declared) (before place : ℕ) where
   -- at the end the whole is checked
   pub read_ended : (rest : List ℕ) → reading_at before place rest ≡ ended → read_from zero t before place rest ≡ of_graph (whole t)
   read_ended [] e = refl
   read_ended (b ∷ more) e = ap (λ r. of_record r t (λ k u. read_from (body_length k) u (kind_byte k) (place + 1 + body_length k) more)) e
-
-  pub read_refused : (rest : List ℕ) (fault : RecordFault) → reading_at before place rest ≡ refused fault → read_from zero t before place rest ≡ Err (Record fault)
-  read_refused [] fault e = absurd (ended_not_refused fault e)
-  read_refused (b ∷ more) fault e = ap (λ r. of_record r t (λ k u. read_from (body_length k) u (kind_byte k) (place + 1 + body_length k) more)) e
 
   module _ (p : ℕ) (k : Kind) (body : List ℕ) where
     pub read_fault : (rest : List ℕ) (fault : TableFault) → reading_at before place rest ≡ found p k body → declaring t p k body ≡ Err fault → read_from zero t before place rest ≡ Err (Table fault)

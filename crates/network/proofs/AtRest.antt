@@ -1,5 +1,5 @@
 -- Whether every router advertises one and the same set, router by router. Assumes nothing.
-use Rattle.std.proofs.Common.{◌≡◌, refl, ℕ, ◌+◌, ◌<◌, ◌≤◌, Bool, true, false, eqb, length, take, ap, ◌∙◌, arith}
+use Rattle.std.proofs.Common.{◌≡◌, ℕ, ◌+◌, ◌<◌, ◌≤◌, Bool, true, false, eqb, length, take, ap, ◌∙◌, arith}
 use Rattle.std.proofs.lemmas.Bool.Decides.{nat_tests}
 use Rattle.std.proofs.lemmas.List.{get_or-take, length-take}
 use Rattle.std.proofs.lemmas.List.Folds.{list_all_more, list_all_at}
@@ -11,9 +11,6 @@ module _ (kept : Keeping) (s : State) where
   -- whether router v's set is what is kept of the injected paths
   abbrev pub rests : ℕ → Bool
   rests set = eqb set (kept s.table.paths s.injected)
-
-  pub first_rest : list_all rests (take 0 s.advertised) ≡ true
-  first_rest = refl
 
   pub more_rest : (v : ℕ) → v < length s.advertised → set_of s.advertised v ≡ kept s.table.paths s.injected → list_all rests (take v s.advertised) ≡ true → list_all rests (take (v + 1) s.advertised) ≡ true
   more_rest v below is before = list_all_more rests s.advertised v 0 below ∙ grind (arith, nat_tests, before, is)

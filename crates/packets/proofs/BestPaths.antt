@@ -1,6 +1,6 @@
 -- The best path that is worked out is the one candidate that no other beats. Assumes nothing.
 use Rattle.std.proofs.Common.{◌≡◌, ℕ, ◌<◌, Bool, true, false, cond, not, ◌&&◌, ◌||◌, eqb, ◌⊎◌, length, Some, None, Option, sym, ap, ◌∙◌, inl, inr, ⊎_elim, arith}
-use Rattle.std.proofs.lemmas.Bool.{both_ways, cases_eq, eq-eqb, ne_eqb, not-true, or_cases, and_parts, ltb-true}
+use Rattle.std.proofs.lemmas.Bool.{both_ways, cases_eq, cases_order, eq-eqb, ne_eqb, not-true, or_cases, and_parts, ltb-true}
 use Rattle.costs.specs.Cost.{Cost, CostLaws}
 use Rattle.costs.proofs.Orders.{at_most_from_same, at_most_or_less, not_less}
 use Rattle.layout.specs.Table.{Declared}
@@ -71,3 +71,35 @@ module _ {C : Type 0} (cost : Cost C) (laws : CostLaws cost) (t : Declared) (s v
     h.0,
     λ q cq. ⊎_elim (λ le. le) (λ less. absurd (h.1 q cq (inl less))) (at_most_or_less laws (metric cost t v p) (metric cost t v q)),
   )
+
+  level : (p q : ℕ) → Best cost t s v p → Best cost t s v q → metric cost t v p ≡ metric cost t v q → p ≡ q
+  level p q h g same =
+      elim (cases_order (speaker_of t p) (speaker_of t q)) [
+        | inl e ↦ elim (cases_order p q) [
+          | inl one ↦ one
+          | inr o ↦ elim o [
+            | inl lt ↦ absurd (g.1 p h.0 (inr (same, inr (e, lt))))
+            | inr lt ↦ absurd (h.1 q g.0 (inr (sym same, inr (sym e, lt))))
+          ]
+        ]
+        | inr o ↦ elim o [
+          | inl lt ↦ absurd (g.1 p h.0 (inr (same, inl lt)))
+          | inr lt ↦ absurd (h.1 q g.0 (inr (sym same, inl lt)))
+        ]
+      ]
+
+  -- no set has two best paths
+  one_best : (p q : ℕ) → Best cost t s v p → Best cost t s v q → p ≡ q
+  one_best p q h g =
+      ⊎_elim
+      (λ le. ⊎_elim (λ back. level p q h g (laws.no_tie _ _ le back)) (λ less. absurd (g.1 p h.0 (inl less))) (at_most_or_less laws (metric cost t v q) (metric cost t v p)))
+      (λ less. absurd (h.1 q g.0 (inl less)))
+      (at_most_or_less laws (metric cost t v p) (metric cost t v q))
+
+  taken : (p : ℕ) (o : Option ℕ) → Best cost t s v p → BestIs cost t s v o → o ≡ Some p
+  taken p None h none = absurd (none p h.0.0)
+  taken p (Some q) h g = ap Some (one_best q p g h)
+
+  -- so a path that is best is the one that is worked out
+  pub best_from : (p : ℕ) → Best cost t s v p → best cost t s v ≡ Some p
+  best_from p h = taken p (best cost t s v) h best_is

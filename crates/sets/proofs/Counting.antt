@@ -1,16 +1,16 @@
 -- How many members a word has.
-use Rattle.std.proofs.Common.{◌≡◌, ℕ, zero, suc, ◌+◌, ◌-◌, ◌*◌, ◌/◌, ◌%◌, ◌^◌, ◌<◌, ◌≤◌, Bool, true, false, cond, not, ◌&&◌, ◌||◌, eqb, ltb, sym, refl, ap, ◌∙◌, ap₂, inl, inr, zero-le, le_of_eq, mod-lt, mod-eq_of_lt, zero-lt-suc, add_comm, one-add, arith, pow_pos}
+use Rattle.std.proofs.Common.{◌≡◌, ℕ, zero, suc, ◌+◌, ◌*◌, ◌/◌, ◌%◌, ◌^◌, ◌<◌, ◌≤◌, Bool, true, false, cond, not, ◌&&◌, eqb, sym, refl, ap, ◌∙◌, ap₂, inl, inr, zero-le, le_of_eq, mod-lt, mod-eq_of_lt, zero-lt-suc, add_comm, one-add, arith, pow_pos}
 use mathlib.Core.Bool.{and-false}
 use native.Mathlib.Nat.{mod-one}
 use lib.Arith.{bin_ind, lt-one}
 use lib.Bits.{bit_and, bit_or, or_add_and, or_shr, or_mod, and_shr, and_mod}
 use lib.Count.{ones, ones_step, ones_cat}
 use lib.Pow.{mod-pow-add}
-use Rattle.std.proofs.lemmas.Bool.{eqb-true, eq-eqb, lt-ltb, cases_lt, both_ways, and_parts, and_from, or_left, or_right}
+use Rattle.std.proofs.lemmas.Bool.{eqb-true, eq-eqb, cases_lt, both_ways, and_parts}
 use Rattle.sets.specs.Members.{member, members_below, Subset}
 use Rattle.sets.proofs.Digits.{member_zero, member_suc, half_below}
 use Rattle.sets.proofs.Same.{below_pow_left, below_pow_right}
-use Rattle.sets.proofs.Single.{member_without, and_one, or_without}
+use Rattle.sets.proofs.Single.{and_one}
 
 ones_digit : (d : ℕ) → d < 2 → ones d ≡ cond (eqb d 1) 1 0
 unfolding ones
@@ -56,14 +56,6 @@ ones_with a n out =
     let apart : ones (bit_and a (2 ^ n)) ≡ 0 = ap ones (and_one a n out) in
     omega (arith, ones_or_and a (2 ^ n), ones_one n)
 
--- and a member that is taken out makes one less
-pub ones_without : (w a n : ℕ) → a < 2 ^ w → n < w → member a n ≡ true → ones (bit_and a (2 ^ w - 1 - 2 ^ n)) + 1 ≡ ones a
-ones_without w a n h l held =
-    let rest = bit_and a (2 ^ w - 1 - 2 ^ n) in
-    let out : member rest n ≡ false =
-    member_without w a n n h l ∙ ap (λ (t : Bool). member a n && not t) (eq-eqb n n refl) ∙ and-false (member a n) in
-    sym (ones_with rest n out) ∙ ap ones (or_without w a n h l held)
-
 digit_le : (x y : ℕ) → x < 2 → (eqb x 1 ≡ true → eqb y 1 ≡ true) → x ≤ y
 digit_le zero y h p = zero-le
 digit_le (suc zero) y h p = omega (arith, eqb-true y 1 (p refl))
@@ -84,11 +76,7 @@ within (suc w) a b h l p =
     let there = ones_step b in
     (omega (arith, rest.0), λ g. let high = rest.1 (omega (arith, rest.0)) in omega (arith, rest.0))
 
--- a set has at most as many members as one that it is within
-pub ones_le : (a b : ℕ) → Subset a b → ones a ≤ ones b
-ones_le a b p = (within (a + b) a b (below_pow_left a b) (below_pow_right a b) p).0
-
--- and is that one where it has as many
+-- a set within another that has as many members is that one
 pub same_from_ones : (a b : ℕ) → Subset a b → ones b ≤ ones a → a ≡ b
 same_from_ones a b p = (within (a + b) a b (below_pow_left a b) (below_pow_right a b) p).1
 
@@ -105,9 +93,3 @@ pub fewer_without : (a r n : ℕ) → ((k : ℕ) → member r k ≡ (member a k 
 fewer_without a r n e held =
     let out = e n ∙ ap (λ (t : Bool). member a n && not t) (eq-eqb n n refl) ∙ and-false (member a n) in
     ones_less r a n (λ k m. (and_parts (member a k) (not (eqb k n)) (sym (e k) ∙ m)).0) out held
-
--- and one that puts a number in comes to more
-pub more_with : (w a r n : ℕ) → ((k : ℕ) → member r k ≡ (member a k || (eqb k n && ltb k w))) → n < w → member a n ≡ false → ones a < ones r
-more_with w a r n e l out =
-    let one = and_from (eqb n n) (ltb n w) (eq-eqb n n refl) (lt-ltb n w l) in
-    ones_less a r n (λ k m. e k ∙ or_left (member a k) (eqb k n && ltb k w) m) out (e n ∙ or_right (member a n) (eqb n n && ltb n w) one)

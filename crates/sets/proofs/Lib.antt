@@ -8,7 +8,6 @@ pub mod Subsets
 pub mod Smallest
 pub mod Counting
 pub mod Lowered
-pub mod Laws
 pub mod Widths
 pub mod Firsts
 pub mod LeastFrom

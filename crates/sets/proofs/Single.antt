@@ -1,15 +1,14 @@
 -- One number more, and one less.
-use Rattle.std.proofs.Common.{◌≡◌, ℕ, zero, suc, ◌-◌, ◌/◌, ◌%◌, ◌^◌, ◌<◌, ◌≤◌, Bool, true, false, not, ◌&&◌, ◌||◌, eqb, sym, ap, ◌∙◌, inl, inr, pow-suc, arith}
-use mathlib.Core.Bool.{and-true, and-false, or-true, or-false}
+use Rattle.std.proofs.Common.{◌≡◌, ℕ, zero, suc, ◌-◌, ◌/◌, ◌%◌, ◌^◌, ◌<◌, ◌≤◌, Bool, false, not, ◌&&◌, ◌||◌, eqb, sym, ap, ◌∙◌, inl, inr, pow-suc, arith}
+use mathlib.Core.Bool.{and-true, and-false}
 use lib.Bits.{bit_and, bit_or}
 use lib.Dec.{eqb-zero-suc, eqb-suc-zero, eqb-suc-suc}
 use lib.Pow.{pow-lt}
-use Rattle.std.proofs.lemmas.Bool.{cases_eq, eq-eqb, ne_eqb}
+use Rattle.std.proofs.lemmas.Bool.{cases_eq, ne_eqb}
 use Rattle.sets.specs.Members.{member}
 use Rattle.sets.proofs.Digits.{member_zero, member_suc, member_none, member_past}
 use Rattle.sets.proofs.Operations.{member_or, member_and, member_difference}
 use Rattle.sets.proofs.Emptiness.{zero_word}
-use Rattle.sets.proofs.Same.{same_set}
 
 -- the word of one number
 pub member_one : (n k : ℕ) → member (2 ^ n) k ≡ eqb k n
@@ -48,18 +47,4 @@ and_one a n out = zero_word (bit_and a (2 ^ n)) (λ k. member_and a (2 ^ n) k �
         elim (cases_eq k n) [
           | inl e ↦ ap (λ (t : Bool). t && eqb k n) (ap (member a) e ∙ out)
           | inr d ↦ ap (λ (t : Bool). member a k && t) (ne_eqb k n d) ∙ and-false (member a k)
-        ]
-
--- a member that is taken out of a word and put back leaves it as it was
-pub or_without : (w a n : ℕ) → a < 2 ^ w → n < w → member a n ≡ true → bit_or (bit_and a (2 ^ w - 1 - 2 ^ n)) (2 ^ n) ≡ a
-or_without w a n h l held =
-    same_set (bit_or (bit_and a (2 ^ w - 1 - 2 ^ n)) (2 ^ n)) a
-    (λ k. member_with (bit_and a (2 ^ w - 1 - 2 ^ n)) n k ∙ ap (λ (t : Bool). t || eqb k n) (member_without w a n k h l) ∙ back k)
-  where
-    back : (k : ℕ) → (member a k && not (eqb k n) || eqb k n) ≡ member a k
-    back k =
-        elim (cases_eq k n) [
-          | inl e ↦
-              ap (λ (t : Bool). member a k && not t || t) (eq-eqb k n e) ∙ or-true (member a k && false) ∙ sym (ap (member a) e ∙ held)
-          | inr d ↦ ap (λ (t : Bool). member a k && not t || t) (ne_eqb k n d) ∙ or-false (member a k && true) ∙ and-true (member a k)
         ]

@@ -1,7 +1,6 @@
 -- The least member of a word is the count of the zeros below it.
-use Rattle.std.proofs.Common.{◌≡◌, ℕ, zero, suc, ◌/◌, ◌%◌, ◌^◌, ◌<◌, true, false, eqb, refl, ap, ◌∙◌, inl, inr, arith}
+use Rattle.std.proofs.Common.{◌≡◌, ℕ, zero, suc, ◌/◌, ◌%◌, ◌^◌, ◌<◌, true, false, eqb, refl, ap, ◌∙◌, arith}
 use lib.Count.{count_trailing_zeros, under}
-use Rattle.std.proofs.lemmas.Bool.{both_ways, cases_order}
 use Rattle.sets.specs.Members.{member, Least}
 use Rattle.sets.proofs.Digits.{member_zero, member_suc, half_below}
 use Rattle.sets.proofs.Same.{below_pow}
@@ -26,14 +25,3 @@ least_trailing (suc w) a p h =
 -- a word other than 0 has a member
 pub some_member : (a : ℕ) → 0 < a → (k : ℕ) × (member a k ≡ true)
 some_member a p = (count_trailing_zeros a a, (least_trailing a a p (below_pow a)).0)
-
--- there is one least member
-pub same_least : (a m n : ℕ) → Least a m → Least a n → m ≡ n
-same_least a m n p q =
-    elim (cases_order m n) [
-      | inl e ↦ e
-      | inr o ↦ elim o [
-        | inl l ↦ absurd (both_ways (member a m) (q.1 m l) p.0)
-        | inr g ↦ absurd (both_ways (member a n) (p.1 n g) q.0)
-      ]
-    ]

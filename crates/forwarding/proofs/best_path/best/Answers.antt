@@ -1,4 +1,4 @@
-use Rattle.std.proofs.Common.{◌≡◌, ◌+◌, ◌*◌, ◌<◌, ◌≤◌, length, get_or, sym, subst, arith}
+use Rattle.std.proofs.Common.{◌≡◌, ◌+◌, ◌*◌, ◌<◌, ◌≤◌, length, get_or, sym, ◌∙◌, subst, arith}
 use Rattle.std.proofs.lemmas.Grind.{common_steps}
 use Rattle.costs.specs.Cost.{plain}
 use Rattle.costs.proofs.Plain.{plain_laws}
@@ -7,7 +7,7 @@ use Rattle.layout.specs.Table.{path_at}
 use Rattle.layout.specs.declared.path.ExitPath.{ExitPath}
 use Rattle.layout.proofs.Certain.{known_well_formed}
 use Rattle.packets.specs.BestPlain.{BestIs}
-use Rattle.packets.proofs.BestPaths.{best_is}
+use Rattle.packets.proofs.BestPaths.{best_is, best_from}
 use Rattle.forwarding.proofs.Ranks.{found_ends, found_higher, found_lower, found_none, found_over, ranked}
 use Rattle.forwarding.proofs.Rows.{answered, answers, exit_in_row, row_near}
 use Rattle.forwarding.proofs.best_path.best.Goals as goal
@@ -68,4 +68,5 @@ returns c =
     record {
       value = answers t v _ _ (answered t v _ (distances_from t v) c.in_ok-row.ensures.value).0 is;
       plain = subst (BestIs plain t s v) (sym is) (best_is plain plain_laws t s v);
+      only = λ p h. is ∙ best_from plain plain_laws t s v p h;
     }

@@ -12,7 +12,7 @@ use Rattle.distances.specs.Answered.{declared_by}
 use Rattle.layout.specs.WellFormed.{LinkFits}
 use Rattle.layout.proofs.Certain.{known_well_formed}
 use Rattle.packets.specs.Hops.{HopIs, hop, lead_along}
-use Rattle.packets.proofs.NextHops.{hop_is}
+use Rattle.packets.proofs.NextHops.{hop_is, hop_from}
 use Rattle.packets.proofs.PlainPackets.{plain_measured}
 use Rattle.forwarding.proofs.Rows.{both_answered, both_answers}
 use Rattle.forwarding.proofs.LowestHop.{lowest_is}
@@ -45,4 +45,5 @@ returns c =
     record {
       value = both_answers t v e _ _ told.0 told.1 is;
       plain = subst (HopIs plain t v e) (sym is) (hop_is plain plain_laws t measured.links_fit measured.distances v e told.0 told.1);
+      only = λ w lt next. is ∙ hop_from plain plain_laws t v e w lt next;
     }
