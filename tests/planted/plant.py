@@ -81,7 +81,9 @@ def edits(crate):
 
 
 def functions(text):
-    """Each function that has a body: its name, its first and last line, and how many bugs it wants."""
+    """Each function that has a body: its name, its first and last line, and how many bugs it wants: three where anybody can call it, as the method of
+    a trait, or where it is long. What `fmt` prints is not promised."""
+    of_traits = [(m.start(), m.end()) for m in re.finditer(r"^impl\b[^\n]* for (?:.|\n)*?^\}", text, re.M)]
     for m in FN.finditer(text):
         end, semicolon = re.compile(rf"^{m['indent']}\}}", re.M).search(text, m.end()), SEMICOLON.search(text, m.end())
         if not end or "{" not in text[m.end() : semicolon.start() if semicolon else None]:
@@ -89,7 +91,8 @@ def functions(text):
         first, last = text.count("\n", 0, m.start()) + 1, text.count("\n", 0, end.start()) + 1
         body = text.find(f"\n{m['indent']}{{\n", m.end(), end.start())
         lines = text.count("\n", body + 1, end.start()) - 1 if body > 0 else last - first - 1
-        yield m["name"], first, last, 3 if m["pub"] or lines > 10 else 0
+        is_of_a_trait = m["name"] != "fmt" and any(start < m.start() < stop for start, stop in of_traits)
+        yield m["name"], first, last, 3 if m["pub"] or is_of_a_trait or lines > 10 else 0
 
 
 def definitions(text):
@@ -154,8 +157,8 @@ def by_checks(bugs, top):
         (top / "crates" / it.crate / "must-fail" / f"{it.name}.edit").write_text(it.edit())
     _, said = run(["rt", "must-fail", *crates], top) if bugs else (0, "")
     for m in re.finditer(r"must-fail (\w+)/(\w+)\.edit: (.*)", said):
-        # (that a name of a proof is gone says nothing of the contract)
-        is_refused = m[3].startswith("refused") and "only because a proof file names" not in m[3]
+        # (that a name of a proof is gone says nothing of the contract, nor does a bug that the borrow checker cannot follow)
+        is_refused = m[3].startswith("refused") and not re.search("only because a proof file names|large solution", m[3])
         yield (m[1], m[2]), ("refused" if is_refused else "let through" if m[3].startswith("NOT REFUSED") else "bad", m[3])
 
 
