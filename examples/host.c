@@ -1,5 +1,5 @@
 /*
- * A host in C: where every router of a table would send its traffic.
+ * A host in C: which path every router of a table would take.
  *
  *     host TABLE [PATH ...]
  *
@@ -82,7 +82,7 @@ static const char *words(unsigned number)
     case REFLECTORS_BAD_PAIR:
         return "the record joins a router to itself, or two routers that an earlier one of its kind joins";
     case REFLECTORS_BAD_SESSION:
-        return "the session is not between two clients of one cluster";
+        return "the session joins two routers that are not both clients of the same cluster";
     case REFLECTORS_NO_ROUTER:
         return "there is no router";
     case REFLECTORS_NO_REFLECTOR:

@@ -1,9 +1,9 @@
 /*
  * The reflector library, for a host in C or C++.
  *
- * One call tells by which path each router of a table sends its traffic, where
- * some of the table's exit paths are injected and every router advertises what
- * the five-stage rule keeps of them:
+ * One call tells which path each router of a table takes, where some of the
+ * table's exit paths are injected and every router advertises what the
+ * five-stage rule keeps of them:
  *
  *     uint8_t buffer[REFLECTORS_LEAST_BUFFER];
  *     uint64_t answer = reflectors_direct(table, length, injected, buffer, sizeof buffer);
@@ -12,8 +12,11 @@
  *     for (size_t router = 0; router < reflectors_routers(table, length); router++)
  *         ... buffer[router] is a path or REFLECTORS_NO_PATH ...
  *
+ * It does not tell where a router's packets leave: that may be at an exit of
+ * another router, which they come to on the way.
+ *
  * Link with libreflectors_c.a. It needs a processor of the level x86-64-v2 and
- * 40 kilobytes of stack.
+ * 48 KiB of stack.
  */
 #ifndef REFLECTORS_H
 #define REFLECTORS_H
@@ -37,7 +40,7 @@ extern "C" {
 /* The least length of the buffer for the answer, in bytes. */
 #define REFLECTORS_LEAST_BUFFER 32
 
-/* The byte of a router that sends its traffic nowhere. */
+/* The byte of a router that takes no path. */
 #define REFLECTORS_NO_PATH 255
 
 /* In a table the routers come first: this kind, and so many bytes each. */
@@ -61,7 +64,7 @@ enum {
     REFLECTORS_TOO_MANY = 4,         /* the record is one more than the most of its kind */
     REFLECTORS_OUT_OF_RANGE = 5,     /* a field is out of range or names a router that no earlier record declares */
     REFLECTORS_BAD_PAIR = 6,         /* a link or a session joins a router to itself, or a pair again */
-    REFLECTORS_BAD_SESSION = 7,      /* a session is not between two clients of one cluster */
+    REFLECTORS_BAD_SESSION = 7,      /* a session joins two routers that are not both clients of the same cluster */
 
     /* The routers and links as a whole. */
     REFLECTORS_NO_ROUTER = 8,        /* there is no router; the place is 0 */
@@ -98,9 +101,8 @@ static inline size_t reflectors_routers(const uint8_t *table, size_t table_lengt
 /*
  * Takes the paths of the word as injected (bit n for path n), and writes one
  * byte for each router of the table, in the order of their numbers: the path
- * by which it sends its traffic, or REFLECTORS_NO_PATH. That is every router
- * if no path is injected, and none otherwise. The bytes behind those stay as
- * they were.
+ * that it takes, or REFLECTORS_NO_PATH. That is every router if no path is
+ * injected, and none otherwise. The bytes behind those stay as they were.
  *
  * Answers 0, or number + 256 * place of the refusal with the smallest number.
  * A refused call writes nothing.

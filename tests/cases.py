@@ -72,25 +72,31 @@ def keeps(name, paths, asked, five_stage, compare_always, declared=None):
     CASES.append((name, f"{spell([router(0, REFLECTOR), *paths])}; {word:016X}", result))
 
 
-def ways(name, records, asked, *routers):
+def ways(name, records, asked, *routers, stray=None):
     """Of a set of numbers, for each router its best path, the metric, the routers that a packet meets and the path
-    by which it leaves, or nothing; and what is refused behind the last router and the last path."""
+    by which it leaves, or nothing; and what is refused behind the last router and the last path. Where the set has
+    paths that are not declared, the lowest of these is the stray, and every router is refused."""
     count, paths = (sum(r[0] == kind for r in records) for kind in (1, 4))
-    assert len(routers) == count
     lines = []
+    if stray is not None:
+        lines += [f"R{v} best 11 at {stray}, trace 11 at {stray}" for v in range(count)]
+    else:
+        assert len(routers) == count
     for v, found in enumerate(routers):
         if found is None:
             lines.append(f"R{v} - - goes nowhere")
         else:
             best, metric, met, out = found
             lines.append(f"R{v} P{best} {metric} meets {' '.join(map(str, met))} leaves P{out}")
+    no_router = f"12 at {count}" if stray is None else f"11 at {stray}"
+    no_room = "16 at 32" if stray is None else f"11 at {stray}"
     lines += [
-        f"best 12 at {count}",
+        f"best {no_router}",
         f"metric of a path and at a router 11 at {paths}",
         f"metric at a router 12 at {count}" if paths else "metric at a router 11 at 0",
         f"next hop 12 at {count}",
-        f"trace from a router into 31 bytes 12 at {count}",
-        "trace into 31 bytes 16 at 32",
+        f"trace from a router into 31 bytes {no_router}",
+        f"trace into 31 bytes {no_room}",
     ]
     word = sum(1 << p for p in asked)
     CASES.append((name, f"{spell(records)} > {word:016X}", "".join(f"\n  {line}" for line in lines)))
@@ -104,7 +110,9 @@ def network(name, records, *calls, rests=None, loads=True):
     """Calls on a network, each with its answer, the routers that advertise another set than before, with that set, and
     whether every router then advertises exactly what the five-stage rule keeps of all injected paths. Where the network
     ends settled and not reopened, it rests with a best path and its metric for each router, or None; and then what is
-    refused behind the last router and of short buffers. `misload` loads the bytes of the table without the last one."""
+    refused behind the last router and of short buffers. `misload` loads the bytes of the table without the last one. A
+    trace has 32 bytes and a list 512, unless a last word says how many. The program makes each call twice, by itself and
+    in one run of all, and says where the two differ, and where a byte is written that no answer tells of."""
     count = sum(r[0] == 1 for r in records)
     lines = []
     for call, answer, *then in calls:
@@ -297,9 +305,12 @@ KEPT = [(1, 5, [0, 2, 3], 1), (2, 3, [1], 2), (1, 4, [2, 3], 1), (1, 0, [3], 1)]
 ways("ways of the paths that are kept of all", WORKED, [1, 2], *KEPT)
 ways("ways where a path is withdrawn", WORKED, [0, 2], (0, 10, [0, 1], 0), (0, 0, [1], 0), (0, 11, [2, 0, 1], 0), (0, 15, [3, 2, 0, 1], 0))
 ways("ways of no path", WORKED, [], *[None] * 4)
-ways("ways of undeclared paths alone", WORKED, [3, 63], *[None] * 4)
-ways("ways of two paths and undeclared ones", WORKED, [1, 2, 3, 40, 63], *KEPT)
-ways("ways where no path is declared", [*HEADS, *LINKS], ALL, *[None] * 4)
+ways("ways of undeclared paths alone", WORKED, [3, 63], stray=3)
+ways("ways of two paths and undeclared ones", WORKED, [1, 2, 3, 40, 63], stray=3)
+ways("ways of every path and one that is not declared", WORKED, [0, 1, 2, 40], stray=40)
+ways("ways of 63 paths and the one behind them", [router(0, REFLECTOR)] + [path(0)] * 63, ALL, stray=63)
+ways("ways where no path is declared", [*HEADS, *LINKS], [], *[None] * 4)
+ways("ways of all numbers where no path is declared", [*HEADS, *LINKS], ALL, stray=0)
 ways("ways of a router alone", [router(0, REFLECTOR), path(0, exit_cost=9)], [0], (0, 9, [0], 0))
 # a line of 32 routers with the largest metrics and the largest exit cost
 LINE = CROWD + [link(v, v + 1, 65535) for v in range(31)]
@@ -410,6 +421,87 @@ network("a twin does not reflect to the other", TWINS, LOADED, ("inject 0", "don
 CLIENTS = [router(0, REFLECTOR), router(0, CLIENT), router(0, CLIENT), link(0, 1), link(0, 2), session(2, 1), path(1), path(2)]
 network("two clients in a session", CLIENTS, LOADED, ("inject 0", "done", {1: [0]}, False), ("inject 1", "done", {2: [1]}, False),
         ("step 1", "done", {1: [0, 1]}, False), ("step 2", "done", {2: [0, 1]}, False), ("step 0", "done", {0: [0, 1]}, True))
+
+def questions(settled, v, *answers):
+    """What is asked about a router: its best path, that path's metric, what it knows, and what it advertises."""
+    return [(f"{word} {v}", answer, {}, settled) for word, answer in zip(("best", "metric", "known", "advertised"), answers)]
+
+
+def of_all(settled, injected):
+    """What is asked of all routers: the injected paths, and whether the network is settled."""
+    return [("injected", braces(injected), {}, settled), ("settled", "yes" if settled else "no", {}, settled)]
+
+
+def unanswered(settled, *routers):
+    """No question about a router that is not declared has an answer."""
+    return [call for v in routers for call in questions(settled, v, *[f"12 at {v}"] * 4)]
+
+
+def reports(*calls):
+    """Reports of a settled network, with their answers."""
+    return [(call, answer, {}, True) for call, answer in calls]
+
+
+# every question, on networks that run and on settled ones
+network("questions before a table is loaded", WORKED, *unanswered(True, 0, 31, TOP), *of_all(True, []))
+network("questions where nothing is injected", WORKED, LOADED, *questions(True, 3, "none", "none", "{}", "{}"), *unanswered(True, 4), *of_all(True, []))
+network("questions on a running network", WORKED, *TWO_STEPS, *questions(False, 0, "P0", "10", "{0 2}", "{0 2}"),
+        *questions(False, 1, "P0", "0", "{0 2}", "{0 2}"), *questions(False, 2, "P1", "4", "{0 1 2}", "{1 2}"),
+        *questions(False, 3, "P1", "0", "{1}", "{1}"), *unanswered(False, 4, 32, TOP), *of_all(False, [0, 1, 2]))
+network("questions on a settled network", WORKED, *SETTLED, *questions(True, 0, "P1", "5", "{1 2}", "{1 2}"),
+        *questions(True, 1, "P2", "3", "{0 1 2}", "{1 2}"), *questions(True, 2, "P1", "4", "{1 2}", "{1 2}"),
+        *questions(True, 3, "P1", "0", "{1 2}", "{1 2}"), *unanswered(True, 4, 32, TOP), *of_all(True, [0, 1, 2]),
+        rests=[(1, 5), (2, 3), (1, 4), (1, 0)])
+network("questions behind a path that is withdrawn", WORKED, *LOST, *questions(False, 0, "P1", "5", "{1 2}", "{1 2}"),
+        *questions(False, 3, "P2", "18", "{2}", "{2}"), *unanswered(False, 4), *of_all(False, [0, 2]))
+network("questions on a settled network without a path", WORKED, LOADED, ("settle", "done", {}, True), *questions(True, 0, "none", "none", "{}", "{}"),
+        *unanswered(True, 4), *of_all(True, []), rests=[None] * 4)
+# reports into buffers of several lengths
+LISTED = "R0 P1 5, R1 P2 3, R2 P1 4, R3 P1 0"
+network("traces into buffers of several lengths", WORKED, *SETTLED,
+        *reports(("trace 0 20", "16 at 32"), ("trace 0 31", "16 at 32"), ("trace 0 32", "meets 0 2 3 leaves P1"), ("trace 0 40", "meets 0 2 3 leaves P1"),
+                 ("trace 1 40", "meets 1 leaves P2"), ("trace 2 33", "meets 2 3 leaves P1"), ("trace 3 0", "16 at 32"), ("trace 4 40", "12 at 4"),
+                 ("trace 4 20", "12 at 4"), (f"trace {TOP} 31", f"12 at {TOP}"), ("trace 0", "meets 0 2 3 leaves P1")),
+        rests=[(1, 5), (2, 3), (1, 4), (1, 0)])
+network("lists into buffers of several lengths", WORKED, *SETTLED,
+        *reports(("list 511", "16 at 512"), ("list 512", LISTED), ("list 600", LISTED), ("list 0", "16 at 512"), ("list 32", "16 at 512"), ("list", LISTED)),
+        rests=[(1, 5), (2, 3), (1, 4), (1, 0)])
+network("reports where nothing is injected", WORKED, LOADED, ("settle", "done", {}, True),
+        *reports(("list", "R0 - -, R1 - -, R2 - -, R3 - -"), ("trace 2 40", "none"), ("trace 2 20", "16 at 32"), ("list 511", "16 at 512")), rests=[None] * 4)
+network("reports without a router", WORKED, ("settle", "done", {}, True),
+        *reports(("list", "no router"), ("list 600", "no router"), ("list 511", "16 at 512"), ("trace 0 40", "12 at 0")), rests=[], loads=False)
+network("reports before and behind a path that is withdrawn", WORKED, *SETTLED, *reports(("list", LISTED), ("trace 3", "meets 3 leaves P1"), ("reopen", "done")),
+        ("withdraw 1", "done", {3: [2]}, False), ("settle", "done", {0: [0, 2], 1: [0, 2], 2: [0, 2], 3: [0, 2]}, True),
+        *reports(("list 600", "R0 P0 10, R1 P0 0, R2 P0 11, R3 P0 15"), ("trace 3 40", "meets 3 2 0 1 leaves P0")), rests=[(0, 10), (0, 0), (0, 11), (0, 15)])
+network("a list on a running network", WORKED, *REOPENED, ("list", "out of place"))
+# the longest way, and a list of the longest lines there
+FAR = LINE + [path(31, exit_cost=65535)] * 64
+FURTHEST = [(63, (32 - v) * 65535) for v in range(32)]
+network("reports along the longest line", FAR, LOADED, ("inject 63", "done", {31: [63]}, False), ("settle", "done", {v: [63] for v in range(31)}, True),
+        *reports(("trace 0", f"meets {' '.join(map(str, range(32)))} leaves P63"), ("trace 0 31", "16 at 32"), ("metric 0", "2097120"),
+                 ("list", ", ".join(f"R{v} P{p} {metric}" for v, (p, metric) in enumerate(FURTHEST)))), rests=FURTHEST)
+# two clusters of a reflector and a client each, and the exit that both preferred is withdrawn: that takes three rounds to be
+# forgotten, hop by hop, and until then the other exit is kept back; in three more it comes to the last router
+LONGEST = [*HEADS, link(0, 1), link(0, 2), link(2, 3), path(1, 1, 200, 1, speaker=1), path(3, 3, 100, 1, speaker=3)]
+FALLEN = [LOADED, ("inject 0", "done", {1: [0]}, False), ("inject 1", "done", {3: [1]}, False), ("settle", "done", {0: [0], 2: [0], 3: [0]}, True),
+          ("reopen", "done", {}, True), ("withdraw 0", "done", {1: []}, False)]
+AT_ONCE = "step 0 1 2 3"
+FIVE = [*FALLEN, (AT_ONCE, "done", {0: []}, False), (AT_ONCE, "done", {2: []}, False), ("known 3", "{0 1}", {}, False),
+        (AT_ONCE, "done", {3: [1]}, False), (AT_ONCE, "done", {2: [1]}, False), (AT_ONCE, "done", {0: [1]}, False)]
+SIX = [*FIVE, (AT_ONCE, "done", {1: [1]}, True)]
+network("five rounds that do not settle a network", LONGEST, *FIVE, *questions(False, 1, "none", "none", "{}", "{}"), *of_all(False, [1]))
+network("six rounds that settle it", LONGEST, *SIX, *questions(True, 1, "P1", "3", "{1}", "{1}"), *of_all(True, [1]), (AT_ONCE, "done", {}, True))
+# of single steps, in an order in which each round carries it no further
+INWARDS, OUTWARDS = (3, 2, 0, 1), (1, 0, 2, 3)
+SINGLE = [(INWARDS, {0: []}), (INWARDS, {2: []}), (OUTWARDS, {3: [1]}), (OUTWARDS, {2: [1]}), (OUTWARDS, {0: [1]})]
+network("six rounds of single steps that settle it", LONGEST, *FALLEN,
+        *[(f"step {v}", "done", {u: altered[u] for u in altered if u == v}, False) for order, altered in SINGLE for v in order],
+        ("step 1", "done", {1: [1]}, True), *[(f"step {v}", "done", {}, True) for v in (0, 2, 3)])
+# a round in which no call alters a set, refused calls and questions among them
+network("a quiet round behind six", LONGEST, *SIX, ("step 3 1", "done", {}, True), ("inject 1", "14 at 1", {}, True), ("step", "13 at 0", {}, True),
+        ("known 0", "{1}", {}, True), ("step 2", "done", {}, True), ("withdraw 0", "15 at 0", {}, True), ("step 0", "done", {}, True), ("settled", "yes", {}, True))
+network("a quiet round behind settling", WORKED, *REOPENED, ("step 2", "done", {}, True), ("best 0", "P1", {}, True), ("step 0 1", "done", {}, True),
+        ("step 9", "12 at 9", {}, True), ("step 3", "done", {}, True), ("settle", "done", {}, True), rests=[(1, 5), (2, 3), (1, 4), (1, 0)])
 # the limits: 32 routers, and all 64 paths, of which the rule keeps each
 # routers 1 and 2 hear of every path at once, by their sessions with all other clients
 HEARD = {v: {0, v} | {u for talk in TALKS for u in talk[1:] if v in talk[1:]} for v in range(1, 32)}

@@ -39,6 +39,19 @@ HUB = [
     path(1, 100, speaker=1), path(2, 100, speaker=2), path(3, 200, speaker=3),
     path(4, 200, med=10, speaker=4), path(5, 300, speaker=5), path(6, 300, speaker=6),
 ]
+# reflector 1 with clients 0 and 2, in a row 0 1 2: an exit of cost 0 at 2, and one of cost 100 at 1
+ON_THE_WAY = [
+    router(0, CLIENT), router(0, REFLECTOR), router(0, CLIENT),
+    link(0, 1), link(1, 2),
+    path(2), path(1, 200, exit_cost=100, speaker=2),
+]
+# a row of 32 routers, links and exits as dear as can be: reflector 0 with clients 1 to 15, reflector 31 with clients 16 to 30, and
+# two exits at each router n, paths 2 n and 2 n + 1, of which the latter has the lower speaker
+LONG_ROW = [
+    router(0, REFLECTOR), *[router(0, CLIENT)] * 15, *[router(1, CLIENT)] * 15, router(1, REFLECTOR),
+    *[link(v, v + 1, 65_535) for v in range(31)],
+    *[path(p // 2, exit_cost=65_535, speaker=63 - p) for p in range(64)],
+]
 TWO_CLUSTERS = [*HEADS, *LINKS, *EXITS]
 
 TABLES = {
@@ -46,8 +59,10 @@ TABLES = {
     "cut-short": [*TWO_CLUSTERS[:-1], TWO_CLUSTERS[-1][:11]],
     "crossing-links": CROSSING_LINKS,
     "hub": HUB,
+    "long-row": LONG_ROW,
     "med-churn": MED_CHURN,
     "no-exits": [router(0, REFLECTOR), router(0, CLIENT), link(0, 1, 7)],
+    "on-the-way": ON_THE_WAY,
     "oscillation": OSCILLATION,
     "two-clusters": TWO_CLUSTERS,
 }

@@ -1,4 +1,4 @@
--- The test for a settled network tells whether it is settled. Assumes nothing.
+-- The test for a settled network tells whether it is settled.
 use Rattle.std.proofs.Common.{◌≡◌, ℕ, ◌<◌, ◌≤◌, true, List, length, get_or, take, Decides, sym, ◌∙◌, arith}
 use Rattle.std.specs.Prelude.{◌==◌}
 use Rattle.std.specs.List.{list_all}
@@ -10,7 +10,7 @@ use Rattle.selection.specs.Laws.{Keeping}
 use Rattle.protocol.specs.Consistent.{Consistent}
 use Rattle.protocol.specs.Network.{State}
 use Rattle.protocol.specs.Settled.{Settled}
-use Rattle.calls.specs.Turns.{at_rest}
+use Rattle.calls.specs.Calls.{at_rest}
 
 -- of the first n numbers of a list, whether each is m
 all_are : (m n : ℕ) (xs : List ℕ) → n ≤ length xs → Decides (list_all (λ x. x == m) (take n xs)) ((v : ℕ) → v < n → get_or xs v 0 ≡ m)

@@ -1,10 +1,9 @@
--- What happens to a network by a call may come to it. Assumes nothing.
+-- What happens to a network by a call may come to it.
 use Rattle.std.proofs.Common.{◌≡◌, ℕ, ◌^◌, ◌<◌, length, Some, None, Ok, Err, Option, Result, refl, inl, inr}
 use Rattle.std.proofs.lemmas.Bool.{both_ways, cases_lt, cond_both, ltb-true, and_from, le-leb}
 use Rattle.std.specs.Prelude.{nat_lt, ◌==◌}
 use Rattle.faults.specs.declared.call.CallFault.TheVariants.{UndeclaredRouter, NoRouterNamed, AlreadyInjected, NotInjected}
 use Rattle.faults.specs.declared.load.LoadFault.{LoadFault}
-use Rattle.layout.specs.Promise.{Reads}
 use Rattle.layout.specs.Reading.{table_in}
 use Rattle.layout.specs.Table.{Declared}
 use Rattle.layout.specs.WellFormed.{WellFormed}
@@ -20,22 +19,13 @@ use Rattle.protocol.specs.Runs.{AllCome}
 use Rattle.protocol.specs.Settled.{stretch}
 use Rattle.protocol.proofs.Resting.{all_of_below}
 use Rattle.protocol.proofs.Running.{below_comes}
-use Rattle.calls.specs.Calls.{Coming, loading_by, injecting, withdrawing, restarting, stepping_by, stepping}
+use Rattle.calls.specs.Calls.{Coming, coming, loading_by, injecting, withdrawing, restarting, stepping_by, stepping}
 use Rattle.calls.specs.Turns.{of_moves, moves_of}
+use Rattle.calls.specs.Typed.{TypedAction, Typed}
+use Rattle.calls.specs.declared.action.Action.{Action}
+use Rattle.calls.specs.declared.action.Action.TheVariants.{Load, Inject, Withdraw, Restart, Step}
 use Rattle.calls.specs.declared.call.Call.{Call}
-use Rattle.calls.specs.declared.call.Call.TheVariants.{Load, Inject, Withdraw, Restart, Step, Settle, Reopen, Best, Trace}
-
--- what the types of a call's numbers give: bytes are read as is promised of bytes, and a set of routers is a word of 32 bits
-abbrev pub Typed : Call → Type 0
-Typed (Load bytes) = Reads bytes.now (table_in bytes.now)
-Typed (Step w) = w < 2 ^ 32
-Typed (Inject p) = Unit {0}
-Typed (Withdraw p) = Unit {0}
-Typed (Restart v) = Unit {0}
-Typed Settle = Unit {0}
-Typed Reopen = Unit {0}
-Typed (Best v) = Unit {0}
-Typed (Trace v) = Unit {0}
+use Rattle.calls.specs.declared.call.Call.TheVariants.{Act, Settle, Reopen, Ask, Report}
 
 -- where the least number past the last router is looked for and none is found, the set names declared routers only
 pub none_undeclared : (s : State) (w : ℕ) → w < 2 ^ 32 → LeastFrom 32 w (length s.table.routers) None → Declares s w
@@ -47,7 +37,7 @@ none_undeclared s w word none v m =
 
 module _ (kept : Keeping) (s : State) where
   -- what a call comes to may come
-  abbrev Comes_by : Coming → Type 0
+  abbrev pub Comes_by : Coming → Type 0
   Comes_by c = AllCome kept s (of_moves c)
 
   pub loading_comes : (r : Result Declared LoadFault) → ((t : Declared) → r ≡ Ok t → WellFormed t) → Comes_by (loading_by r)
@@ -85,14 +75,17 @@ module _ (kept : Keeping) (s : State) where
   pub settling_comes : AllCome kept s (stretch (all_of (length s.table.routers) 7))
   settling_comes = below_comes kept (all_of (length s.table.routers) 7) s (all_of_below (length s.table.routers) 7)
 
+  pub action_comes : (a : Action) → TypedAction a → Comes_by (coming s a)
+  action_comes (Load bytes) reads = loading_comes (table_in bytes.now) (λ t e. (reads.accepted t e).0)
+  action_comes (Inject p) h = injecting_comes p
+  action_comes (Withdraw p) h = withdrawing_comes p
+  action_comes (Restart v) h = restarting_comes v
+  action_comes (Step w) word = stepping_comes w word
+
   pub call_comes : (call : Call) → Typed call → AllCome kept s (moves_of s call)
   unfolding AllCome
-  call_comes (Load bytes) reads = loading_comes (table_in bytes.now) (λ t e. (reads.accepted t e).0)
-  call_comes (Inject p) h = injecting_comes p
-  call_comes (Withdraw p) h = withdrawing_comes p
-  call_comes (Restart v) h = restarting_comes v
-  call_comes (Step w) word = stepping_comes w word
+  call_comes (Act a) h = action_comes a h
   call_comes Settle h = settling_comes
   call_comes Reopen h = tt
-  call_comes (Best v) h = tt
-  call_comes (Trace v) h = tt
+  call_comes (Ask q) h = tt
+  call_comes (Report r part) h = tt

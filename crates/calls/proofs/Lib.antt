@@ -1,8 +1,15 @@
 pub mod Coming
+pub mod Refusing
 pub mod Appending
-pub mod Staying
 pub mod AtRest
-pub mod Tracing
+pub mod Staying
+pub mod Doing
+pub mod Acting
 pub mod Showing
+pub mod Tracing
+pub mod Rounding
+pub mod Telling
 pub mod Playing
 pub mod Stepping
+pub mod Following
+pub mod Resulting

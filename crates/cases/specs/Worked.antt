@@ -1,9 +1,10 @@
 -- The worked cases that are proved: one list, and what it is for a case to hold. Assumes nothing.
 use Rattle.std.specs.Prelude.{◌≡◌, ℕ, ◌^◌, List, [], ◌∷◌, ◌++◌, length, map, take, Some, None, Ok, Err, Option, Result, bit_or}
 use Rattle.std.specs.List.{range_with_len}
-use Rattle.calls.specs.Turns.{after_call}
+use Rattle.calls.specs.Turns.{moves_of}
+use Rattle.calls.specs.declared.action.Action.TheVariants.{Inject, Withdraw, Step}
 use Rattle.calls.specs.declared.call.Call.{Call}
-use Rattle.calls.specs.declared.call.Call.TheVariants.{Inject, Withdraw, Step, Settle, Reopen}
+use Rattle.calls.specs.declared.call.Call.TheVariants.{Act, Settle, Reopen}
 use Rattle.costs.specs.Cost.{plain}
 use Rattle.faults.specs.Faults.{number_of, place_of}
 use Rattle.faults.specs.declared.load.LoadFault.{LoadFault}
@@ -12,10 +13,10 @@ use Rattle.layout.specs.Table.{Declared}
 use Rattle.packets.specs.Best.{best, metric}
 use Rattle.packets.specs.Ways.{way}
 use Rattle.packets.specs.WaysPlain.{links_cost}
-use Rattle.protocol.specs.Moves.{loaded}
+use Rattle.protocol.specs.Moves.{loaded, after_all}
 use Rattle.protocol.specs.Network.{State}
 use Rattle.protocol.specs.Packets.{best_of, way_of}
-use Rattle.selection.specs.Laws.{Keeping, Laws, declared_of}
+use Rattle.selection.specs.Laws.{Heritage, Keeping, Laws, declared_of}
 use Rattle.selection.specs.Stages.{keep_all, keep_compare_always, keep_five_stage}
 
 pub data Case : Type 0 where
@@ -23,7 +24,7 @@ pub data Case : Type 0 where
   refused : List ℕ → ℕ → ℕ → Case
   -- of these paths of the worked table, these are kept
   keeps : (Declared → Keeping) → List ℕ → List ℕ → Case
-  -- what is so kept of the worked table's paths breaks a law, and is no rule
+  -- what is so kept of the worked table's paths is against heritage, and so is no rule
   breaks : (Declared → Keeping) → Case
   -- of these paths of the worked table, the routers take these, one each, with these metrics
   takes : List ℕ → List ℕ → List ℕ → Case
@@ -92,11 +93,12 @@ best_metrics t s = map (λ v. best_metric t v (best plain t s v)) (range_with_le
 -- the network after one call after another
 abbrev pub after_calls : State → List Call → State
 after_calls s [] = s
-after_calls s (c ∷ cs) = after_calls (after_call keep_five_stage s c) cs
+after_calls s (c ∷ cs) = after_calls (after_all keep_five_stage s (moves_of s c)) cs
 
 -- the network of a table, after these calls behind the injections of its three paths
 abbrev pub network_after : List Call → Declared → State
-network_after calls t = after_calls (loaded t) (Inject 0 ∷ Inject 1 ∷ Inject 2 ∷ calls)
+network_after calls t =
+    after_calls (loaded t) (Act (Inject 0) ∷ Act (Inject 1) ∷ Act (Inject 2) ∷ calls)
 
 -- a path with its metric at router v
 abbrev pub with_metric : Declared → ℕ → Option ℕ → Option (ℕ × ℕ)
@@ -115,7 +117,8 @@ OfWorked P (Err fault) = ⊥
 abbrev pub Holds : Case → Type 0
 Holds (refused bytes number place) = refusal (table_in bytes) ≡ Some (number, place)
 Holds (keeps kept given answer) = OfWorked (λ t. kept_of kept t (set_of given) ≡ set_of answer) (table_in worked_table)
-Holds (breaks kept) = OfWorked (λ t. Laws (kept t) → ⊥) (table_in worked_table)
+Holds (breaks kept) =
+    OfWorked (λ t. (Heritage (kept t) → ⊥) × (Laws (kept t) → ⊥)) (table_in worked_table)
 Holds (takes given paths metrics) = OfWorked (λ t. (best_paths t (set_of given) ≡ map Some paths) × (best_metrics t (set_of given) ≡ map Some metrics)) (table_in worked_table)
 Holds (meets given from met path) = OfWorked (λ t. way plain t (set_of given) from ≡ Some (met, path)) (table_in worked_table)
 Holds (spends from met metric) = OfWorked (λ t. links_cost plain t from met ≡ metric) (table_in worked_table)
@@ -126,11 +129,11 @@ Holds (sends calls from met path) = OfWorked (λ t. way_of (network_after calls 
 
 -- a step of router 0
 abbrev pub one_step : List Call
-one_step = Step (set_of (0 ∷ [])) ∷ []
+one_step = Act (Step (set_of (0 ∷ []))) ∷ []
 
 -- and then one of routers 0 and 2
 abbrev pub two_steps : List Call
-two_steps = one_step ++ (Step (set_of (0 ∷ 2 ∷ [])) ∷ [])
+two_steps = one_step ++ (Act (Step (set_of (0 ∷ 2 ∷ []))) ∷ [])
 
 -- and then the network settles
 abbrev pub settled_once : List Call
@@ -138,7 +141,7 @@ settled_once = two_steps ++ (Settle ∷ [])
 
 -- and then path 1 is withdrawn, and it settles again
 abbrev pub settled_again : List Call
-settled_again = settled_once ++ (Reopen ∷ Withdraw 1 ∷ Settle ∷ [])
+settled_again = settled_once ++ (Reopen ∷ Act (Withdraw 1) ∷ Settle ∷ [])
 
 abbrev pub worked : List Case
 worked =

@@ -29,24 +29,33 @@ pub(crate) fn leaves(rt: &impl Print, met: &[u8], path: u8) -> anyhow::Result<()
 // The routers that a packet from this router meets, and the path by which it leaves.
 fn way(rt: &impl Print, distances: &Distances, router: u32, set: PathSet) -> anyhow::Result<()> {
     let mut met = [UNWRITTEN; 40];
-    let Some(found) = trace(distances, router, set, &mut met)? else {
-        println!(rt; " goes nowhere")?;
-        return untouched(rt, &met);
+    let count = match trace(distances, router, set, &mut met) {
+        Ok(Some(way)) => {
+            leaves(rt, met.get(..way.count).unwrap_or_default(), way.path)?;
+            way.count
+        }
+        Ok(None) => {
+            print!(rt; " goes nowhere")?;
+            0
+        }
+        Err(fault) => {
+            print!(rt; ", trace {} at {}", fault.number(), fault.place())?;
+            0
+        }
     };
-    let (met, behind) = met.split_at(found.count);
-    leaves(rt, met, found.path)?;
     println!(rt; "")?;
-    untouched(rt, behind)
+    untouched(rt, met.get(count..).unwrap_or_default())
 }
 
-// The best path of a router and its metric, and the way of a packet.
+// The best path of a router and its metric, and the way of a packet; or why it is refused to tell.
 fn router(rt: &impl Print, distances: &Distances, v: u32, set: PathSet) -> anyhow::Result<()> {
-    match best(distances, v, set)? {
-        Some(path) => {
+    match best(distances, v, set) {
+        Ok(Some(path)) => {
             let cost = metric(distances, v, path as u32)?;
             print!(rt; "  R{v} P{path} {cost}")?;
         }
-        None => print!(rt; "  R{v} - -")?,
+        Ok(None) => print!(rt; "  R{v} - -")?,
+        Err(fault) => print!(rt; "  R{v} best {} at {}", fault.number(), fault.place())?,
     }
     way(rt, distances, v, set)
 }
@@ -64,7 +73,7 @@ pub(crate) fn refused<T: Drop>(
     Ok(())
 }
 
-// What is answered about numbers past the last router and the last path, and about a buffer that is short.
+// What is refused about numbers past the last router and the last path, and about a buffer that is short.
 fn refusals(rt: &impl Print, distances: &Distances, set: PathSet) -> anyhow::Result<()> {
     let v = distances.table().routers().len() as u32;
     let p = distances.table().paths().len() as u32;

@@ -1,2 +1,2 @@
-mod Lowest
 mod Promised
+pub mod Telling

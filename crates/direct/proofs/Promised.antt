@@ -22,15 +22,18 @@ use Rattle.packets.proofs.BestPaths.{best_is}
 use Rattle.selection.specs.Laws.{AllDeclared, declared_of, Offered}
 use Rattle.selection.specs.Plain.{FiveStageKeeps}
 use Rattle.selection.specs.Stages.{keep_five_stage}
+use Rattle.selection.specs.Undeclared.{lowest_undeclared}
 use Rattle.selection.proofs.DeclaredPart.{declared_same}
 use Rattle.selection.proofs.PlainTerms.{five_stage_plain}
 use Rattle.selection.proofs.RuleLaws.{five_stage_laws}
+use Rattle.selection.proofs.Undeclared.{LowestIs, plain_undeclared}
 use Rattle.sets.specs.Members.{member, Empty}
 use Rattle.sets.proofs.Digits.{member_below}
 use Rattle.sets.proofs.LeastFrom.{least_from_is}
-use Rattle.direct.specs.Answers.{bytes_sent, lowest_undeclared, worked_out_by, worked_out, without_bytes, laid_over}
+use Rattle.direct.specs.Answers.{bytes_sent, worked_out_by, worked_out, without_bytes, laid_over}
 use Rattle.direct.specs.Promise.{IsTable, Sends, Sent, Refused, Directs}
-use Rattle.direct.proofs.Lowest.{LowestIs, plain_undeclared}
+use Rattle.direct.specs.Tells.{DirectTells}
+use Rattle.direct.proofs.Telling.{direct_tells}
 
 -- a table, and paths that it declares
 module _ (t : Declared) (w : WellFormed t) (injected : ℕ) (all : AllDeclared t.paths injected) where
@@ -82,11 +85,24 @@ module _ (t : Declared) (injected : ℕ) (word : injected < 2 ^ 64) where
   lowest_is : LowestIs t.paths injected (lowest_undeclared t.paths injected)
   lowest_is = plain_undeclared t.paths injected word (lowest_undeclared t.paths injected) (least_from_is 64 injected (length t.paths))
 
+  -- where none is undeclared, what is kept is declared
+  pub kept_declared : lowest_undeclared t.paths injected ≡ None → AllDeclared t.paths (keep_five_stage t.paths injected)
+  kept_declared none =
+      let all : AllDeclared t.paths injected = subst (LowestIs t.paths injected) none lowest_is in
+      λ p is. all p (five_stage_laws.within t.paths injected all p is)
+
   -- where none is undeclared, what is kept of the declared ones is what is kept of all
   pub kept_same : lowest_undeclared t.paths injected ≡ None → keep_five_stage t.paths (declared_of t.paths injected) ≡ keep_five_stage t.paths injected
   kept_same none = ap (keep_five_stage t.paths) (declared_same t.paths injected (subst (LowestIs t.paths injected) none lowest_is))
 
 module _ (bs : List ℕ) (injected : ℕ) (word : injected < 2 ^ 64) (before : List ℕ) where
+  -- what an answer and a buffer keep, and so tell
+  abbrev pub Kept : Result ⊤ CallFault → List ℕ → Type 0
+  Kept answer after = Directs bs injected before after answer × DirectTells bs injected before after answer
+
+  pub kept_of : (answer : Result ⊤ CallFault) (after : List ℕ) → Directs bs injected before after answer → Kept answer after
+  kept_of answer after keeps = (keeps, direct_tells bs injected before after answer keeps)
+
   abbrev Promised : Result (List ℕ) CallFault → Type 0
   Promised r = Directs bs injected before (laid_over r before) (without_bytes r)
 
@@ -154,11 +170,12 @@ module _ (bs : List ℕ) (injected : ℕ) (word : injected < 2 ^ 64) (before : L
     pub ends :
         {answer : Result ⊤ CallFault} {after : List ℕ} (t : Declared) →
         Ok t ≡ r → Reads bs (Ok t) → (is : Result (List ℕ) CallFault) → worked_out r injected (length before) ≡ is → answer ≡ without_bytes is → after ≡ laid_over is before →
-        (answer ≡ without_bytes (worked_out r injected (length before))) × (after ≡ laid_over (worked_out r injected (length before)) before) × Directs bs injected before after answer
+        (answer ≡ without_bytes (worked_out r injected (length before))) × (after ≡ laid_over (worked_out r injected (length before)) before) × Kept answer after
     ends {answer} {after} t read reads is out value bytes = (
       value ∙ ap without_bytes (sym out),
       bytes ∙ ap (λ x. laid_over x before) (sym out),
-      subst (λ x. Directs bs injected before x answer) (sym bytes)
+      kept_of answer after
+          (subst (λ x. Directs bs injected before x answer) (sym bytes)
           (subst (Directs bs injected before (laid_over is before)) (sym value)
-          (subst Promised out (by_table r (subst (Reads bs) read reads)))),
+          (subst Promised out (by_table r (subst (Reads bs) read reads))))),
     )

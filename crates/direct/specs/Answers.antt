@@ -8,18 +8,13 @@ use Rattle.faults.specs.declared.call.CallFault.TheVariants.{Load, UndeclaredPat
 use Rattle.faults.specs.declared.load.LoadFault.{LoadFault}
 use Rattle.layout.specs.Reading.{table_in}
 use Rattle.layout.specs.Table.{Declared}
-use Rattle.layout.specs.declared.path.ExitPath.{ExitPath}
 use Rattle.packets.specs.Best.{best}
 use Rattle.selection.specs.Stages.{keep_five_stage}
-use Rattle.sets.specs.Members.{least_from}
+use Rattle.selection.specs.Undeclared.{lowest_undeclared}
 
 -- a byte for each router: its best path of a set, or 255
 abbrev pub bytes_sent : Declared → ℕ → List ℕ
 bytes_sent t s = map (λ v. unwrap_or (best plain t s v) 255) (range_with_len 0 (length t.routers))
-
--- the lowest path of a set that is not declared
-abbrev pub lowest_undeclared : List ExitPath → ℕ → Option ℕ
-lowest_undeclared xs s = least_from 64 s (length xs)
 
 -- the bytes for what the five-stage rule keeps of the injected paths, where the buffer has so many bytes
 abbrev pub worked_out_by : Declared → ℕ → ℕ → Option ℕ → Result (List ℕ) CallFault

@@ -11,6 +11,7 @@ use Rattle.layout.specs.WellFormed.{WellFormed}
 use Rattle.packets.specs.BestPlain.{Best}
 use Rattle.selection.specs.Laws.{AllDeclared}
 use Rattle.selection.specs.Plain.{FiveStageKeeps}
+use Rattle.selection.specs.Undeclared.{Undeclared}
 use Rattle.sets.specs.Members.{member, Empty}
 
 -- the bytes are those of this well-formed table
@@ -36,7 +37,7 @@ pub record Sent (t : Declared) (injected : ℕ) (before after : List ℕ) : Type
 -- then for a buffer of fewer than 32 bytes
 abbrev pub Refused : List ℕ → ℕ → ℕ → CallFault → Type 0
 Refused bs injected room (Load fault) = Broken bs fault
-Refused bs injected room (UndeclaredPath p) = (t : Declared) × IsTable bs t × Lowest (λ q. (member injected q ≡ true) × (length t.paths ≤ q)) p
+Refused bs injected room (UndeclaredPath p) = (t : Declared) × IsTable bs t × Lowest (Undeclared t.paths injected) p
 Refused bs injected room (UndeclaredRouter v) = ⊥
 Refused bs injected room NoRouterNamed = ⊥
 Refused bs injected room (AlreadyInjected p) = ⊥

@@ -2,6 +2,8 @@ ghost use Rattle.std.specs.Prelude.{◌≡◌, length, Ok};
 ghost use Rattle.distances.specs.Answered.{declared_by};
 ghost use Rattle.direct.specs.Answers.{bytes_sent, direct_answer, direct_bytes};
 ghost use Rattle.direct.specs.Promise.{Directs};
+ghost use Rattle.direct.specs.Tells.{DirectTells};
+ghost use Rattle.selection.specs.Laws.{AllDeclared};
 
 use distances::Distances;
 use faults::CallFault;
@@ -16,9 +18,10 @@ const MOST_ROUTERS: usize = 32;
 // The byte of a router without a path.
 const NO_PATH: u8 = 255;
 
-// A byte for each router: its best path of the set.
+// A byte for each router: its best path of a set of declared paths.
 fn write(distances: &Distances, set: PathSet, routers: &mut [u8]) -> Result<(), CallFault>
     requires each { length routers.old ≡ length (declared_by distances.now).routers }
+    requires all { AllDeclared (declared_by distances.now).paths set }
     ensures done { result ≡ Ok tt }
     ensures bytes { routers.new ≡ bytes_sent (declared_by distances.now) set }
 {
@@ -34,6 +37,7 @@ pub fn direct(bytes: &[u8], injected: u64, buffer: &mut [u8]) -> Result<(), Call
     ensures value { result ≡ direct_answer bytes.now injected (length buffer.old) }
     ensures bytes { buffer.new ≡ direct_bytes bytes.now injected buffer.old }
     ensures promise { Directs bytes.now injected buffer.old buffer.new result }
+    ensures tells { DirectTells bytes.now injected buffer.old buffer.new result }
 {
     let table = Table::read(bytes)?;
     let injected = PathSet::from(injected);

@@ -14,8 +14,8 @@ pub enum TableFault {
     // A link or a session joins a router to itself, or the two routers of an earlier one of its kind.
     #[error("byte {0}: the record joins a router to itself, or two routers that an earlier one of its kind joins")]
     BadPair(usize),
-    // A session is not between two clients of one cluster.
-    #[error("byte {0}: the session is not between two clients of one cluster")]
+    // A session joins two routers that are not both clients of the same cluster.
+    #[error("byte {0}: the session joins two routers that are not both clients of the same cluster")]
     BadSession(usize),
 }
 

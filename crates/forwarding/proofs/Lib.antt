@@ -2,3 +2,4 @@ mod Rows
 mod Ranks
 mod LowestHop
 mod Traced
+pub mod Refused

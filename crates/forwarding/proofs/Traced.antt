@@ -3,7 +3,7 @@ use Rattle.std.proofs.Common.{◌≡◌, ℕ, ◌+◌, ◌<◌, ◌≤◌, List,
 use Rattle.std.proofs.lemmas.List.Elements.{All-get_or}
 use Rattle.costs.specs.Cost.{plain}
 use Rattle.costs.proofs.Plain.{plain_laws}
-use Rattle.distances.specs.Answered.{declared_by}
+use Rattle.distances.specs.Answered.{declared_by, of_router}
 use Rattle.distances.specs.declared.distances.Distances.{Distances}
 use Rattle.faults.specs.declared.call.CallFault.{CallFault}
 use Rattle.layout.specs.Table.{Declared, path_at}
@@ -23,7 +23,7 @@ use Rattle.packets.proofs.Tracing.{Tracing, Out, Onward, tracing_begins, tracing
 use Rattle.selection.specs.Laws.{Offered}
 use Rattle.tables.specs.Accepted.{declared}
 use Rattle.tables.specs.declared.table.Table.{Table}
-use Rattle.forwarding.specs.Answers.{best_answer, hop_answer, told, over_written}
+use Rattle.forwarding.specs.Answers.{hop_answer, told, over_written}
 use Rattle.forwarding.proofs.Rows.{answered, both_answered, both_not_refused}
 
 -- a packet is followed from router v, and its routers are written over what a buffer held
@@ -59,7 +59,7 @@ module _ {t : Declared} {s v : ℕ} {before : List ℕ} (set_up : Setting t s v 
       omega (arith, tracing.counted, tracing.short, enough, length-append tracing.done (at ∷ tracing.rest))
 
   -- without a path the buffer is as it was
-  pub traced_none : {at count : ℕ} {now : List ℕ} {o : Option ℕ} → Traced t s v before at count now → Ok o ≡ best_answer t s at → o ≡ None → (None ≡ told (way plain t s v)) × (now ≡ over_written (way plain t s v) before)
+  pub traced_none : {at count : ℕ} {now : List ℕ} {o : Option ℕ} → Traced t s v before at count now → Ok o ≡ of_router t at (Ok (best plain t s at)) → o ≡ None → (None ≡ told (way plain t s v)) × (now ≡ over_written (way plain t s v) before)
   traced_none (nowhere none at_first first same) said is =
       let no = no_way plain plain_laws t (plain_measured t set_up.sound) s v none in
       (ap told (sym no), same ∙ ap (λ (r : Course). over_written r before) (sym no))
@@ -67,7 +67,7 @@ module _ {t : Declared} {s v : ℕ} {before : List ℕ} (set_up : Setting t s v 
       absurd (tracing_goes plain plain_laws t (plain_measured t set_up.sound) s q offered v before enough at count now tracing (sym (answered t at o (best plain t s at) said).1 ∙ is))
 
   -- router at answered that it takes path p
-  module _ (at : ℕ) {o : Option ℕ} {p : ℕ} (said : Ok o ≡ best_answer t s at) (is : o ≡ Some p) where
+  module _ (at : ℕ) {o : Option ℕ} {p : ℕ} (said : Ok o ≡ of_router t at (Ok (best plain t s at))) (is : o ≡ Some p) where
     takes : best plain t s at ≡ Some p
     takes = sym (answered t at o (best plain t s at) said).1 ∙ is
 

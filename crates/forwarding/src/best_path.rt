@@ -1,9 +1,13 @@
-ghost use Rattle.std.specs.Prelude.{◌≡◌, ℕ, ◌+◌, ◌*◌, ◌^◌, ◌<◌, ◌≤◌, length, IfOk, Some, slice_index};
+ghost use Rattle.std.specs.Prelude.{◌≡◌, ℕ, ◌+◌, ◌*◌, ◌^◌, ◌<◌, ◌≤◌, length, IfErr, IfNone, IfOk, OnOk, Some, slice_index};
 ghost use Rattle.costs.specs.Cost.{plain};
-ghost use Rattle.distances.specs.Answered.{declared_by};
+ghost use Rattle.distances.specs.Answered.{declared_by, of_router};
 ghost use Rattle.forwarding.specs.Answers.{best_answer, metric_answer};
 ghost use Rattle.forwarding.specs.Ranks.{rank_of};
+ghost use Rattle.forwarding.specs.Refusals.{BestAsked, BestRefused};
+ghost use Rattle.packets.specs.Best.{best};
 ghost use Rattle.packets.specs.BestPlain.{Best, BestIs};
+ghost use Rattle.selection.specs.Laws.{AllDeclared};
+ghost use Rattle.selection.specs.Undeclared.{lowest_undeclared};
 
 use distances::Distances;
 use faults::CallFault;
@@ -32,13 +36,25 @@ fn rank(router: u32, row: &[u32], path: ExitPath) -> u64
     (elsewhere << 63) + (metric << 32) + u64::from(path.speaker)
 }
 
-// The best path of a router of a set: if some of the set leave at the router itself only those count; the
-// least metric wins, then the lowest speaker, then the lowest number. None where no path of the set is
-// declared. The set comes apart from the distances, which stay while sets come and go.
-pub fn best(distances: &Distances, router: u32, set: PathSet) -> Result<Option<u8>, CallFault>
-    ensures value { result ≡ best_answer (declared_by distances.now) set router }
+// The lowest path of a set that is not declared.
+pub(crate) fn lowest_undeclared(distances: &Distances, set: PathSet) -> Option<u32>
+    ensures value { result ≡ lowest_undeclared (declared_by distances.now).paths set }
+    ensures none { IfNone result (AllDeclared (declared_by distances.now).paths set) }
+{
+    set.least_from(distances.table().paths().len() as u32)
+}
+
+// The best path of a router of a set that was looked at before: what is not declared is passed over.
+pub(crate) fn best_declared(
+    distances: &Distances,
+    router: u32,
+    set: PathSet,
+) -> Result<Option<u8>, CallFault>
+    ensures value { result ≡ of_router (declared_by distances.now) router
+        (Ok (best plain (declared_by distances.now) set router)) }
     ensures plain { IfOk result (BestIs plain (declared_by distances.now) set router) }
-    ensures only { IfOk result (λ path. (p : ℕ) → Best plain (declared_by distances.now) set router p → path ≡ Some p) }
+    ensures only { IfOk result (λ path.
+        (p : ℕ) → Best plain (declared_by distances.now) set router p → path ≡ Some p) }
 {
     let row = distances.row(router)?;
     let paths = distances.table().paths();
@@ -56,6 +72,22 @@ pub fn best(distances: &Distances, router: u32, set: PathSet) -> Result<Option<u
         }
     }
     Ok(first)
+}
+
+// The best path of a router of a set of declared paths: if some of the set leave at the router itself, only those count; of
+// the least metric, then of the lowest speaker, then of the lowest number. None where the set is empty. The set comes apart
+// from the distances, which stay while sets come and go.
+pub fn best(distances: &Distances, router: u32, set: PathSet) -> Result<Option<u8>, CallFault>
+    ensures value { result ≡ best_answer (declared_by distances.now) set router }
+    ensures asked { OnOk result (BestAsked (declared_by distances.now) set router) }
+    ensures refused { IfErr result (BestRefused (declared_by distances.now) set router) }
+    ensures plain { IfOk result (BestIs plain (declared_by distances.now) set router) }
+    ensures only { IfOk result (λ path. (p : ℕ) → Best plain (declared_by distances.now) set router p → path ≡ Some p) }
+{
+    if let Some(path) = lowest_undeclared(distances, set) {
+        return Err(CallFault::UndeclaredPath(path));
+    }
+    best_declared(distances, router, set)
 }
 
 // The metric of a path at a router: the distance to its exit point and then its exit cost.

@@ -1,11 +1,12 @@
-ghost use Rattle.std.specs.Prelude.{◌≡◌, ◌<◌, ◌≤◌, length};
+ghost use Rattle.std.specs.Prelude.{◌≡◌, ◌<◌, ◌≤◌, length, IfErr, OnErr, OnOk};
 ghost use Rattle.costs.specs.Cost.{plain};
 ghost use Rattle.distances.specs.Answered.{declared_by};
 ghost use Rattle.forwarding.specs.Answers.{told, over_written, trace_answer, trace_bytes};
+ghost use Rattle.forwarding.specs.Refusals.{TraceAsked, TraceRefused};
 ghost use Rattle.packets.specs.Ways.{way};
 ghost use Rattle.packets.specs.WaysPlain.{AlwaysLeaves, LeavesFrom};
 
-use crate::best_path::best;
+use crate::best_path::{best_declared, lowest_undeclared};
 use crate::hops::next_hop;
 use distances::Distances;
 use faults::CallFault;
@@ -38,7 +39,7 @@ fn follow(
     let paths = distances.table().paths();
     let mut at = router;
     for (before, place) in met.iter_mut().enumerate() {
-        let Some(path) = best(distances, at as u32, set)? else {
+        let Some(path) = best_declared(distances, at as u32, set)? else {
             return Ok(None);
         };
         *place = at;
@@ -59,9 +60,9 @@ fn follow(
     Ok(None)
 }
 
-// The way of a packet from a router, where every router takes its best path of the set: the routers that it
-// meets, one byte each, go into `met`, and bytes past them stay as they were. None where no path of the set
-// is declared. The distances and the set come apart, as in `best`.
+// The way of a packet from a router, where every router takes its best path of a set of declared paths: the routers that it
+// meets, one byte each, go into `met`, and bytes past them stay as they were. None where the set is empty. The distances and
+// the set come apart, as in `best`.
 pub fn trace(
     distances: &Distances,
     router: u32,
@@ -70,9 +71,17 @@ pub fn trace(
 ) -> Result<Option<Way>, CallFault>
     ensures value { result ≡ trace_answer (declared_by distances.now) set router (length met.old) }
     ensures bytes { met.new ≡ trace_bytes (declared_by distances.now) set router met.old }
+    ensures asked { OnOk result
+        (TraceAsked (declared_by distances.now) set router (length met.old)) }
+    ensures refused { IfErr result
+        (TraceRefused (declared_by distances.now) set router (length met.old)) }
+    ensures unchanged { OnErr result (met.new ≡ met.old) }
     ensures leaves { router < length (declared_by distances.now).routers → LeavesFrom plain (declared_by distances.now) set router }
     ensures however { AlwaysLeaves plain (declared_by distances.now) set }
 {
+    if let Some(path) = lowest_undeclared(distances, set) {
+        return Err(CallFault::UndeclaredPath(path));
+    }
     // The router is declared.
     distances.row(router)?;
     if met.len() < MOST_MET {

@@ -14,3 +14,4 @@ pub mod Accepts
 pub mod Promised
 pub mod Progress
 pub mod Certain
+pub mod Told

@@ -8,3 +8,4 @@ pub mod Checks
 pub mod Graph
 pub mod Reading
 pub mod Promise
+pub mod Answer

@@ -52,7 +52,7 @@ BadPair t Link body = Wrong (pair_in body) (map link_ends t.links)
 BadPair t Session body = Wrong (pair_in body) (map session_ends t.sessions)
 BadPair t Path body = ⊥
 
--- a session is not between two clients of one cluster
+-- a session joins two routers that are not both clients of the same cluster
 abbrev pub BadSession : Declared → Kind → List ℕ → Type 0
 BadSession t Router body = ⊥
 BadSession t Link body = ⊥

@@ -1,4 +1,4 @@
-// An external route that one router, its exit point, may learn; its number is its place among the paths.
+// A way out of the network that is open at one router, its exit point. A path's number is its place among the paths.
 #[derive(Clone, Copy, Debug, Default, PartialEq, Eq)]
 pub struct ExitPath {
     pub exit_point: u8,

@@ -54,7 +54,13 @@ impl From<Role> for u8 {
     }
 }
 
+// The name of a role.
 impl fmt::Display for Role {
+    ghost use Rattle.std.specs.Prelude.{Some};
+    ghost use Rattle.layout.specs.Roles.{role_name};
+
+    ghost output = { λ role. Some (role_name role) };
+
     fn fmt<W: fmt::Write>(&self, f: &mut fmt::Formatter<W>) -> fmt::Result {
         f.write_str(match self {
             Role::Client => "client",

@@ -1,11 +1,17 @@
 -- The list of a network in text: where every router sends its traffic. Assumes nothing.
-use Rattle.std.specs.Prelude.{ℕ, zero, suc, cond, List, [], ◌++◌, length, drop, Some, None, Ok, Err, Option, Result, codes, decimal, nat_le}
+use Rattle.std.specs.Prelude.{ℕ, zero, suc, cond, List, [], ◌++◌, length, drop, Some, None, Ok, Err, Option, Result, bit_or, codes, decimal, nat_le}
 use Rattle.costs.specs.Cost.{plain}
 use Rattle.faults.specs.declared.call.CallFault.{CallFault}
 use Rattle.faults.specs.declared.call.CallFault.TheVariants.{ShortBuffer}
+use Rattle.forwarding.specs.Answers.{of_set, unless_refused}
 use Rattle.layout.specs.Table.{Declared}
 use Rattle.packets.specs.Best.{best, metric}
 use Rattle.protocol.specs.Network.{set_of}
+
+-- all paths that the first n routers advertise
+unfoldable pub named_by : List ℕ → ℕ → ℕ
+named_by advertised zero = 0
+named_by advertised (suc n) = bit_or (named_by advertised n) (set_of advertised n)
 
 module _ (t : Declared) where
   -- P and a path's number, and its metric at router v; hyphens where there is no path
@@ -35,3 +41,10 @@ module _ (t : Declared) where
     -- the buffer afterwards
     abbrev pub list_bytes : List ℕ → List ℕ
     list_bytes before = cond (nat_le 512 (length before)) (listing ++ drop (length listing) before) before
+
+    -- the same, refused at the lowest path that a router advertises and that is not declared
+    abbrev pub list_answer : ℕ → Result ℕ CallFault
+    list_answer room = of_set t (named_by advertised (length t.routers)) (list_at room)
+
+    abbrev pub list_written : List ℕ → List ℕ
+    list_written before = unless_refused (list_answer (length before)) before (list_bytes before)

@@ -1,4 +1,4 @@
--- The sets of all routers when some of those named were activated, and when all were. Assumes nothing.
+-- The sets of all routers when some of those named were activated, and when all were.
 use Rattle.std.proofs.Common.{◌≡◌, ℕ, ◌<◌, false, not, ◌&&◌, cond, List, length, sym, refl, ap, ◌∙◌, subst, inl, inr, arith}
 use Rattle.std.proofs.lemmas.Bool.{cases_lt, cases_Bool}
 use Rattle.layout.specs.declared.path.ExitPath.{ExitPath}

@@ -1,4 +1,4 @@
--- Whether every router advertises one and the same set, router by router. Assumes nothing.
+-- Whether every router advertises one and the same set, router by router.
 use Rattle.std.proofs.Common.{◌≡◌, ℕ, ◌+◌, ◌<◌, ◌≤◌, Bool, true, false, eqb, length, take, ap, ◌∙◌, arith}
 use Rattle.std.proofs.lemmas.Bool.Decides.{nat_tests}
 use Rattle.std.proofs.lemmas.List.{get_or-take, length-take}

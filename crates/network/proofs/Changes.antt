@@ -1,14 +1,15 @@
--- What the calls come to that change a network. Assumes nothing.
+-- What the calls come to that change a network.
 use Rattle.std.proofs.Common.{◌≡◌, ℕ, ◌-◌, ◌^◌, ◌<◌, true, false, cond, length, bit_and, bit_or, nat_lt, Ok, Err, sym, ap, ◌∙◌, arith}
+use Rattle.std.proofs.lemmas.Bool.{cond-true, lt-ltb}
 use Rattle.std.proofs.lemmas.Bool.Decides.{nat_tests}
 use Rattle.faults.specs.declared.call.CallFault.{CallFault}
 use Rattle.packets.specs.Best.{exit_of}
 use Rattle.selection.specs.Laws.{Keeping}
 use Rattle.sets.specs.Members.{member}
 use Rattle.protocol.specs.Moves.{Move, moved, knowing, injected_at, withdrawn_at}
-use Rattle.protocol.specs.Moves.Move.{Injected, Withdrawn}
+use Rattle.protocol.specs.Moves.Move.{Injected, Withdrawn, Restarted}
 use Rattle.protocol.specs.Network.{State, set_of}
-use Rattle.calls.specs.Calls.{Coming, injecting, withdrawing, done}
+use Rattle.calls.specs.Calls.{Coming, injecting, withdrawing, restarting, done}
 
 -- an answer that was given, where one is given only for numbers below n
 pub given : {X : Type 0} {n a : ℕ} {x y : X} (fault : CallFault) → Ok y ≡ cond (nat_lt a n) (Ok x) (Err fault) → (a < n) × (y ≡ x)
@@ -31,3 +32,7 @@ module _ (kept : Keeping) (s : State) where
 
   pub may_withdraw : (p : ℕ) → p < length s.table.paths → member s.injected p ≡ true → withdrawing s p ≡ Ok (Withdrawn p)
   may_withdraw p below there = grind (arith, nat_tests)
+
+-- a router restarts that is declared
+pub may_restart : (s : State) (v : ℕ) → v < length s.table.routers → restarting s v ≡ Ok (Restarted v)
+may_restart s v below = cond-true (nat_lt v (length s.table.routers)) _ _ (lt-ltb _ _ below)

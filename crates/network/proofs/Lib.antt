@@ -4,3 +4,5 @@ pub mod Activating
 pub mod Rounds
 pub mod AtRest
 pub mod Listed
+pub mod Answering
+pub mod Traced

@@ -1,4 +1,4 @@
--- The list of a network without a router. Assumes nothing.
+-- The list of a network without a router.
 use Rattle.std.proofs.Common.{◌≡◌, ℕ, ◌≤◌, List, length, Ok, arith}
 use Rattle.std.proofs.lemmas.Bool.Decides.{nat_tests}
 use Rattle.layout.specs.Table.{nothing}

@@ -1,4 +1,4 @@
--- Rounds of one router a step, one step and one round further on. Assumes nothing.
+-- Rounds of one router a step, one step and one round further on.
 use Rattle.std.proofs.Common.{◌≡◌, append-nil, ℕ, zero, suc, ◌+◌, ◌^◌, [], ◌∷◌, ◌++◌, sym, refl, ap, ◌∙◌, arith, append_assoc}
 use Rattle.std.proofs.lemmas.List.FromFn.{map-range_with_len_more}
 use Rattle.selection.specs.Laws.{Keeping}

@@ -1,4 +1,4 @@
--- What every network has, and what it holds. Assumes nothing.
+-- What every network has, and what it holds.
 use Rattle.std.proofs.Common.{◌≡◌, ℕ, List, set, Some, None, Option, ap, ◌∙◌}
 use Rattle.distances.specs.Answered.{declared_by}
 use Rattle.layout.specs.Table.{Declared}

@@ -1,4 +1,4 @@
--- What a network of the library holds. Assumes nothing.
+-- What a network of the library holds.
 use Rattle.std.specs.Prelude.{Some, None, Option}
 use Rattle.distances.specs.Answered.{declared_by}
 use Rattle.layout.specs.Table.{Declared, nothing}
@@ -14,7 +14,13 @@ table_of (Some p) = declared_by p.distances
 
 -- the network of a table with these sets
 abbrev pub state_with : Declared → Sets → State
-state_with t s = record { table = t; injected = s.injected; known = s.known; advertised = s.advertised }
+state_with t s = record {
+  table = t;
+  injected = s.injected;
+  known = s.known;
+  advertised = s.advertised;
+}
 
-abbrev pub state_of : Held → State
-state_of h = state_with (table_of h.peering) h.sets
+-- the network of what is held
+abbrev pub state_held : Held → State
+state_held h = state_with (table_of h.peering) h.sets

@@ -1,9 +1,10 @@
-// The network under one rule: what is held of it, and what every call does to it and answers.
+// A network of route reflectors and their clients under one rule, running or settled: what is held of it, and its calls.
 #![tactic(auto)]
 
 mod activation;
 mod held;
-mod network;
+mod running;
+mod settled;
 
-pub use held::{Held, Sets};
-pub use network::Network;
+pub use running::Running;
+pub use settled::Settled;

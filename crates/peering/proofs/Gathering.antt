@@ -1,5 +1,5 @@
 -- What a loop over numbers has gathered, one number further on. Assumes nothing.
-use Rattle.std.proofs.Common.{◌≡◌, ℕ, zero, suc, ◌+◌, ◌<◌, Bool, true, false, ◌&&◌, ◌||◌, eqb, ltb, List, [], ◌∷◌, length, set, sym, ap, ◌∙◌, inl, inr, arith}
+use Rattle.std.proofs.Common.{◌≡◌, ℕ, zero, suc, ◌+◌, ◌<◌, ◌≤◌, Bool, true, false, ◌&&◌, ◌||◌, eqb, ltb, List, [], ◌∷◌, length, replicate, set, sym, refl, ap, ◌∙◌, inl, inr, arith}
 use Rattle.std.proofs.lemmas.Bool.{cases_eq}
 use Rattle.std.proofs.lemmas.Bool.Decides.{nat_tests}
 use Rattle.std.proofs.lemmas.List.{get_or-set_same, get_or-set_other}
@@ -37,6 +37,19 @@ set_grows f sets v new low long had here u p below =
           ∙ here p ∙ ap (λ (w : ℕ). f w p) (sym e)
       | inr other ↦ ap (λ (s : ℕ). member s p) (get_or-set_other sets v u new 0 other) ∙ had u p (omega (arith, below, other))
     ]
+
+-- at first there are only empty sets
+pub empty_sets : (n empty u : ℕ) → empty ≡ 0 → set_of (replicate n empty) u ≡ 0
+empty_sets zero empty u e = refl
+empty_sets (suc n) empty zero e = e
+empty_sets (suc n) empty (suc u) e = empty_sets n empty u e
+
+-- the sets from that router on stay empty
+pub set_past :
+    (sets : List ℕ) (v new : ℕ) → ((u : ℕ) → v ≤ u → set_of sets u ≡ 0) →
+    (u : ℕ) → v + 1 ≤ u → set_of (set sets v new) u ≡ 0
+set_past sets v new none u past =
+    get_or-set_other sets v u new 0 (λ e. omega (arith, past, e)) ∙ none u (omega (arith, past))
 
 -- the exit paths of a router
 pub leaves_tells : (v : ℕ) (xs : List ExitPath) (p : ℕ) → leaves_at v xs p ≡ (ltb p (length xs) && eqb (path_at xs p).exit_point v)

@@ -1,2 +1,3 @@
+pub mod Answered
 pub mod Gathering
 pub mod Learned

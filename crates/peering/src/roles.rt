@@ -26,7 +26,7 @@ fn are_peers(table: &Table, v: usize, w: usize) -> bool
     };
     reflects && other_reflects
         || one.cluster == other.cluster && (reflects || other_reflects)
-        || table.in_session(ends)
+        || table.in_session(ends).unwrap_or(false)
 }
 
 // The peers of a router.

@@ -13,3 +13,6 @@ pub mod Staying
 pub mod Moving
 pub mod Running
 pub mod Plainly
+pub mod Altering
+pub mod Stretches
+pub mod SixRounds

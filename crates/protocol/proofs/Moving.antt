@@ -24,7 +24,7 @@ use Rattle.protocol.proofs.Activation.{for_each_at, length_for_each, past, kept_
 
 module _ {kept : Keeping} (laws : Laws kept) where
   -- where nobody knows a path
-  nobody : (v : ℕ) → set_of (for_each (λ u. 0)) v ≡ 0
+  pub nobody : (v : ℕ) → set_of (for_each (λ u. 0)) v ≡ 0
   nobody v =
       elim (cases_lt v 32) [
         | inl l ↦ for_each_at (λ u. 0) v l
@@ -124,7 +124,7 @@ module _ {kept : Keeping} (laws : Laws kept) where
         member_with s.injected p q ∙ ap (λ (b : Bool). member s.injected q || b) apart ∙ or-false (member s.injected q))
 
     -- words of declared paths are short
-    short : (w : ℕ) → AllDeclared s.table.paths w → w < 2 ^ 64
+    pub short : (w : ℕ) → AllDeclared s.table.paths w → w < 2 ^ 64
     short w all =
         let least : bit_and w (2 ^ length s.table.paths - 1) ≤ 2 ^ length s.table.paths - 1 = and_le_r w (2 ^ length s.table.paths - 1) in
         let bound : 2 ^ length s.table.paths ≤ 2 ^ 64 = pow_mono {i = length s.table.paths} {j = 64} fits.sound.few_paths in

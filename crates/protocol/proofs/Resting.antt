@@ -68,7 +68,8 @@ range_below (suc n) a k l = (
   range_below n (a + 1) k (omega (arith, l)),
 )
 
-below_join : (n : ℕ) (vs ws : List ℕ) → Below n vs → Below n ws → Below n (vs ++ ws)
+-- two stretches of declared routers, one behind the other
+pub below_join : (n : ℕ) (vs ws : List ℕ) → Below n vs → Below n ws → Below n (vs ++ ws)
 below_join n [] ws g h = h
 below_join n (v ∷ vs) ws g h = (g.0, below_join n vs ws g.1 h)
 

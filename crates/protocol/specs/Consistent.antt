@@ -14,7 +14,7 @@ pub record Consistent (kept : Keeping) (s : State) : Type 0 where
   pub injected_declared : AllDeclared s.table.paths s.injected
   pub known_declared : (v : ℕ) → AllDeclared s.table.paths (set_of s.known v)
   pub no_router : (v : ℕ) → length s.table.routers ≤ v → set_of s.known v ≡ 0
-  -- of its own exit paths a router knows exactly the injected ones
+  -- a router knows an exit path of its own exactly if that path is injected
   pub own : (p : ℕ) → p < length s.table.paths → member (set_of s.known (exit_of s.table p)) p ≡ member s.injected p
   -- a router advertises what the rule keeps of what it knows
   pub advertises : (v : ℕ) → set_of s.advertised v ≡ kept s.table.paths (set_of s.known v)

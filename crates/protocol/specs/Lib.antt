@@ -1,7 +1,9 @@
 pub mod Network
 pub mod Moves
+pub mod Alters
 pub mod Settled
 pub mod Consistent
 pub mod Packets
 pub mod Plain
 pub mod Runs
+pub mod SixRounds

@@ -45,7 +45,7 @@ module _ (t : Declared) where
   abbrev pub from_its_exit : ℕ → ℕ → Bool
   from_its_exit w e = w == e
 
-  -- both are reflectors, of different clusters, and the exit point is a client of w
+  -- from reflector to reflector of another cluster, where one of w's clients is the exit point
   abbrev pub between_clusters : ℕ → ℕ → ℕ → Bool
   between_clusters w v e = reflects w && (reflects v && (not (together w v) && (not (reflects e) && together e w)))
 

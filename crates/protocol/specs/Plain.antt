@@ -29,7 +29,7 @@ module _ (t : Declared) where
   pub data Passes (w v e : ℕ) : Type 0 where
     -- w is the exit point
     exit : w ≡ e → Passes w v e
-    -- both are reflectors, of different clusters, and the exit point is a client in w's cluster
+    -- from reflector to reflector of another cluster, where a client in w's own cluster is the exit point
     across : (c d : ℕ) → c ≢ d → Reflector w c → Reflector v d → Client e c → Passes w v e
     -- w is a reflector, v is a client in its cluster, and v is not the exit point
     down : (c : ℕ) → Reflector w c → Client v c → v ≢ e → Passes w v e

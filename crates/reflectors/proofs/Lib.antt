@@ -1,3 +1,2 @@
-pub mod Traced
-pub mod Stepped
+pub mod Parts
 pub mod Turns

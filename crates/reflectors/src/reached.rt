@@ -1,8 +1,7 @@
-use crate::running::Running;
-use crate::settled::Settled;
+use network::{Running, Settled};
 use rules::Rule;
 
-// A network, running or settled.
+/// A network, running or settled.
 #[derive(Drop)]
 pub enum Reached<R: Rule> {
     Running(Running<R>),

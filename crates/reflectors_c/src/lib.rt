@@ -5,6 +5,7 @@ ghost use Rattle.std.specs.Prelude.{◌≡◌, ◌≤◌, length, IfErr};
 ghost use Rattle.direct.specs.Answers.{direct_answer, direct_bytes};
 ghost use Rattle.faults.specs.Faults.{call_place_of};
 ghost use Rattle.reflectors_c.specs.Coded.{coded, HostAnswer};
+ghost use Rattle.reflectors_c.specs.Tells.{HostTells};
 
 use direct::direct;
 use faults::{CallFault, Fault};
@@ -26,6 +27,7 @@ pub extern "C" fn reflectors_direct(table: &[u8], injected: u64, buffer: &mut [u
     ensures value { result ≡ coded (direct_answer table.now injected (length buffer.old)) }
     ensures bytes { buffer.new ≡ direct_bytes table.now injected buffer.old }
     ensures promise { HostAnswer table.now injected buffer.old buffer.new result }
+    ensures tells { HostTells table.now injected buffer.old buffer.new result }
 {
     code(direct(table, injected, buffer))
 }

@@ -3,7 +3,9 @@
 #![tactic(auto)]
 
 ghost use Rattle.std.specs.Prelude.{◌≡◌};
-ghost use Rattle.calls.specs.Promise.{Plays, run_of};
+ghost use Rattle.calls.specs.Follows.{Follows};
+ghost use Rattle.calls.specs.Promise.{Plays, run_of, world_of};
+ghost use Rattle.reflectors.specs.Reached.{world_in};
 ghost use Rattle.selection.specs.Stages.{keep_five_stage};
 
 mod command;
@@ -21,13 +23,15 @@ use std::io;
 use std::io::{BufWriter, Read, Write};
 use std::process::ExitCode;
 
-// Plays the calls in their order, on a network that begins empty.
-fn played(turns: &mut [Turn]) -> Played<FiveStage>
-    ensures turns { turns.new ≡ (run_of keep_five_stage turns.old).turns }
-    ensures played { result.played ≡ (run_of keep_five_stage turns.old).made }
-    ensures plays { Plays keep_five_stage turns.old }
+// Plays the calls in their order, on a network that begins empty, with these bytes for what they write.
+fn played(turns: &mut [Turn], bytes: &mut [u8]) -> Played<FiveStage>
+    ensures turns { turns.new ≡ (run_of keep_five_stage bytes.old turns.old).turns }
+    ensures played { result.played ≡ (run_of keep_five_stage bytes.old turns.old).made }
+    ensures world { world_in result.network bytes.new ≡ world_of keep_five_stage bytes.old turns.old }
+    ensures plays { Plays keep_five_stage bytes.old turns.old }
+    ensures follows { Follows keep_five_stage bytes.old turns.old }
 {
-    play(FiveStage, turns)
+    play(FiveStage, turns, bytes)
 }
 
 // Prints the list of a settled network.
@@ -66,9 +70,10 @@ fn run(rt: &HostRuntime) -> anyhow::Result<Option<Error>> {
     let script = Script::read(rt, text.as_slice())?;
     let entries = script.entries.as_slice();
     let mut turns = turns(rt.alloc(), entries)?;
-    let Played { network, played } = played(turns.as_mut_slice());
+    let mut bytes = vec![in rt.alloc(); 0; script.room]?;
+    let Played { network, played } = played(turns.as_mut_slice(), bytes.as_mut_slice());
     let mut out = BufWriter::new(rt.alloc(), io::writer(rt))?;
-    let settled = print::lines(&mut out, entries, turns.as_slice())?;
+    let settled = print::lines(&mut out, entries, turns.as_slice(), bytes.as_slice())?;
     let ending = match entries.get(played) {
         Some(entry) => Some(misplaced(entry, &network)),
         None => script.ending,

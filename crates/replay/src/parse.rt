@@ -1,9 +1,13 @@
 ghost use Rattle.std.specs.Str.Parse.{ParsesUnsigned};
 
-use crate::command::Command;
+use crate::command::{Command, LIST_ROOM, TRACE_ROOM};
 use anyhow::{Context, Result, bail, ensure};
+use calls::{Question, Report};
 use sets::RouterSet;
 use std::str::SplitWhitespace;
+
+// The longest buffer that a script may name, in bytes.
+const MOST_ROOM: u32 = 65_536;
 
 // A decimal number.
 fn number(word: &str) -> Result<u32>
@@ -36,6 +40,19 @@ fn routers(words: &mut SplitWhitespace<'_>) -> Result<RouterSet> {
     Ok(named)
 }
 
+// The length of a buffer, where one is named.
+fn room(words: &mut SplitWhitespace<'_>, otherwise: usize) -> Result<usize> {
+    let Some(word) = words.next() else {
+        return Ok(otherwise);
+    };
+    let room = number(word)?;
+    ensure!(
+        room <= MOST_ROOM,
+        "a buffer of {room} bytes is more than the {MOST_ROOM} of a script"
+    );
+    Ok(room as usize)
+}
+
 // The call of a line; none where the line has no word.
 pub(crate) fn parse(line: &[u8]) -> Result<Option<Command<'_>>> {
     let code = line.split(|byte| *byte == b'#').next().unwrap_or_default();
@@ -52,8 +69,17 @@ pub(crate) fn parse(line: &[u8]) -> Result<Option<Command<'_>>> {
         "step" => Command::Step(routers(&mut words)?),
         "settle" => Command::Settle,
         "reopen" => Command::Reopen,
-        "best" => Command::Best(numbered(call, &mut words)?),
-        "trace" => Command::Trace(numbered(call, &mut words)?),
+        "best" => Command::Ask(Question::Best(numbered(call, &mut words)?)),
+        "metric" => Command::Ask(Question::Metric(numbered(call, &mut words)?)),
+        "known" => Command::Ask(Question::Known(numbered(call, &mut words)?)),
+        "advertised" => Command::Ask(Question::Advertised(numbered(call, &mut words)?)),
+        "injected" => Command::Ask(Question::Injected),
+        "settled" => Command::Ask(Question::Settled),
+        "trace" => {
+            let report = Report::Trace(numbered(call, &mut words)?);
+            Command::Report(report, room(&mut words, TRACE_ROOM)?)
+        }
+        "list" => Command::Report(Report::List, room(&mut words, LIST_ROOM)?),
         _ => bail!("`{call}` is no call"),
     };
     if let Some(word) = words.next() {

@@ -14,12 +14,19 @@ pub(crate) struct Entry<'a> {
     pub(crate) command: Command<'a>,
     // The bytes of the file that it loads; none where it loads no file.
     pub(crate) table: Vec<u8>,
+    // Where its buffer begins: the buffers of all calls lie one behind the other.
+    pub(crate) start: usize,
 }
 
 impl Entry<'_> {
     // The call, not made yet.
     fn turn(&self) -> Turn<'_> {
-        Turn::new(self.command.call(self.table.as_slice()))
+        Turn::new(self.command.call(self.table.as_slice(), self.start))
+    }
+
+    // Where its buffer ends.
+    fn end(&self) -> usize {
+        self.start.saturating_add(self.command.room())
     }
 }
 
@@ -27,6 +34,8 @@ impl Entry<'_> {
 #[derive(Drop)]
 pub(crate) struct Script<'a> {
     pub(crate) entries: Vec<Entry<'a>>,
+    // How many bytes their buffers have together.
+    pub(crate) room: usize,
     // Which line ends the run, and why.
     pub(crate) ending: Option<Error>,
 }
@@ -41,11 +50,12 @@ fn table<R: Files + AllocGlobal>(rt: &R, command: &Command<'_>) -> Result<Vec<u8
     }
 }
 
-// The call of a line, with the table that it loads.
+// The call of a line, with the table that it loads, and a buffer that begins at this place.
 fn understood<'a, R: Files + AllocGlobal>(
     rt: &R,
     line: usize,
     text: &'a [u8],
+    start: usize,
 ) -> Result<Option<Entry<'a>>> {
     let command = match parse(text) {
         Ok(Some(command)) => command,
@@ -57,6 +67,7 @@ fn understood<'a, R: Files + AllocGlobal>(
         line,
         command,
         table,
+        start,
     }))
 }
 
@@ -65,20 +76,26 @@ impl<'a> Script<'a> {
     pub(crate) fn read<R: Files + AllocGlobal>(rt: &R, text: &'a [u8]) -> Result<Self> {
         let mut entries = Vec::new(rt.alloc());
         let mut line = 0usize;
+        let mut room = 0usize;
+        let mut ending = None;
         for words in text.split(|byte| *byte == b'\n') {
             line = line.saturating_add(1);
-            match understood(rt, line, words) {
-                Ok(Some(entry)) => entries.push(entry)?,
+            match understood(rt, line, words, room) {
+                Ok(Some(entry)) => {
+                    room = entry.end();
+                    entries.push(entry)?;
+                }
                 Ok(None) => {}
                 Err(why) => {
-                    let ending = Some(why.context(format_args!("line {line}")));
-                    return Ok(Script { entries, ending });
+                    ending = Some(why.context(format_args!("line {line}")));
+                    break;
                 }
             }
         }
         Ok(Script {
             entries,
-            ending: None,
+            room,
+            ending,
         })
     }
 }

@@ -11,3 +11,4 @@ pub mod PlainTerms
 pub mod RuleLaws
 pub mod SteadyLaws
 pub mod Taking
+pub mod Undeclared

@@ -144,7 +144,9 @@ impl<const WIDTH: u32> BitSet<WIDTH> {
 
     // The set but for its least member; the empty set is left as it is.
     fn without_least(self) -> Self
-        ensures { (m : ℕ) → Least self.entry m → (k : ℕ) → member result k ≡ (member self.entry k && not (k == m)) }
+        ensures least { (m : ℕ) → Least self.entry m →
+            (k : ℕ) → member result k ≡ (member self.entry k && not (k == m)) }
+        ensures none { Empty self.entry → result ≡ self.entry }
     {
         Self(self.0 & self.0.wrapping_sub(1))
     }

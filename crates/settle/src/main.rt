@@ -7,7 +7,8 @@ ghost use Rattle.faults.specs.declared.call.CallFault.TheVariants.{Load};
 ghost use Rattle.faults.specs.declared.load.LoadFault.{LoadFault};
 ghost use Rattle.layout.specs.Reading.{table_in};
 ghost use Rattle.layout.specs.Table.{Declared};
-ghost use Rattle.network.specs.Held.{state_of};
+ghost use Rattle.network.specs.Running.{rule_of, state_of};
+ghost use Rattle.network.specs.Settled.{rule_of as settled_rule, state_of as settled_state};
 ghost use Rattle.settle.specs.Report.{AllInjected, report_length, report_bytes};
 
 use faults::{CallFault, Fault};
@@ -19,9 +20,9 @@ use std::io::{Read, Write};
 
 // Injects every path: one number after another, up to the first that is not declared.
 fn inject_all<R: Rule>(network: &mut Running<R>)
-    requires none { (state_of network.old.network.held).injected ≡ 0 }
-    ensures all { AllInjected (state_of network.old.network.held).table (state_of network.new.network.held) }
-    ensures rule { network.new.network.rule ≡ network.old.network.rule }
+    requires none { (state_of network.old).injected ≡ 0 }
+    ensures all { AllInjected (state_of network.old).table (state_of network.new) }
+    ensures rule { rule_of network.new ≡ rule_of network.old }
 {
     for path in 0..u64::BITS {
         if network.inject(path).is_err() {
@@ -33,7 +34,8 @@ fn inject_all<R: Rule>(network: &mut Running<R>)
 // The settled network of a table, with every path injected, or why the table is refused.
 fn settled_with_all<R: Rule + Drop>(rule: R, bytes: &[u8]) -> Result<Settled<R>, CallFault>
     ensures { MatchResult result
-        (λ n. (t : Declared) × (table_in bytes.now ≡ Ok t) × AllInjected t (state_of n.network.held) × (n.network.rule ≡ rule))
+        (λ n. (t : Declared) × (table_in bytes.now ≡ Ok t) × AllInjected t (settled_state n)
+        × (settled_rule n ≡ rule))
         (λ fault. (why : LoadFault) × (table_in bytes.now ≡ Err why) × (fault ≡ Load why)) }
 {
     let mut network = Running::new(rule);

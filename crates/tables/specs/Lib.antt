@@ -1,2 +1,3 @@
 pub mod Accepted
+pub mod Asked
 pub mod Exits

@@ -2,6 +2,7 @@ ghost use Rattle.layout.specs.WellFormed.{WellFormed};
 ghost use Rattle.declarations.specs.Held.{declared_in};
 
 mod exits;
+mod index;
 mod lists;
 mod read;
 mod sessions;

@@ -134,9 +134,14 @@ fn numbers(numbers: impl Iterator<Item = usize>) -> String {
 
 fn ways(table: &Table, set: u64) -> Vec<String> {
     let distances = Distances::of(table);
-    let of_router = |router| match best(table, &distances, router, set) {
-        None => format!("R{router} - - goes nowhere"),
-        Some(path) => {
+    let stray = lowest_undeclared(table, set);
+    let of_router = |router| match (stray, best(table, &distances, router, set)) {
+        (Some(path), _) => {
+            let refusal = refusal((UNDECLARED_PATH, path));
+            format!("R{router} best {refusal}, trace {refusal}")
+        }
+        (None, None) => format!("R{router} - - goes nowhere"),
+        (None, Some(path)) => {
             let metric = metric(table, &distances, router, path);
             let way = way(table, &distances, router, set);
             let Way { met, exit } = way.expect("every packet leaves");
@@ -145,27 +150,38 @@ fn ways(table: &Table, set: u64) -> Vec<String> {
         }
     };
     let routers = (0..table.routers.len()).map(of_router);
-    routers.chain(refusals(table)).collect()
+    routers.chain(refusals(table, stray)).collect()
+}
+
+/// The lowest path of a set that is not declared, for which a best path and a way are refused.
+fn lowest_undeclared(table: &Table, set: u64) -> Option<usize> {
+    members(set & !below(table.paths.len())).next()
 }
 
 /// What the calls are refused with that the program makes behind the ways, of the path and the
-/// router behind the last and with a buffer of 31 bytes.
-fn refusals(table: &Table) -> impl Iterator<Item = String> {
+/// router behind the last and with a buffer of 31 bytes. The smallest number is given, and that is
+/// of a path of the set that is not declared, where there is one.
+fn refusals(table: &Table, stray: Option<usize>) -> impl Iterator<Item = String> {
     let path = (UNDECLARED_PATH, table.paths.len());
     let router = (UNDECLARED_ROUTER, table.routers.len());
     // Path 0 is behind the last one where there is none.
     let first_path = if table.paths.is_empty() { path } else { router };
+    let of_set = |other| stray.map_or(other, |path| (UNDECLARED_PATH, path));
     let refused = [
-        ("best", router),
+        ("best", of_set(router)),
         ("metric of a path and at a router", path),
         ("metric at a router", first_path),
         ("next hop", router),
-        ("trace from a router into 31 bytes", router),
-        ("trace into 31 bytes", (SHORT_BUFFER, LEAST_BUFFER)),
+        ("trace from a router into 31 bytes", of_set(router)),
+        ("trace into 31 bytes", of_set((SHORT_BUFFER, LEAST_BUFFER))),
     ];
     refused
         .into_iter()
-        .map(|(call, (number, place))| format!("{call} {number} at {place}"))
+        .map(|(call, refused)| format!("{call} {}", refusal(refused)))
+}
+
+fn refusal((number, place): (u64, usize)) -> String {
+    format!("{number} at {place}")
 }
 
 #[cfg(test)]

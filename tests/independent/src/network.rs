@@ -1,7 +1,7 @@
 //! A network of routers, and its calls (docs/PROTOCOL.md).
 
 use crate::distances::Distances;
-use crate::forwarding::{best, way_by, Way};
+use crate::forwarding::{best, metric, way_by, Way};
 use crate::lines::list;
 use crate::passing::Passing;
 use crate::refusals::{
@@ -83,6 +83,21 @@ impl Network {
         let router = self.router(router)?;
         let set = self.sets.advertised[router];
         Ok(best(&self.table, &self.distances, router, set))
+    }
+
+    /// The metric of that best path at that router.
+    pub fn metric(&self, router: u32) -> Result<Option<u32>, Refusal> {
+        let path = self.best(router)?;
+        let at = router as usize;
+        Ok(path.map(|path| metric(&self.table, &self.distances, at, path)))
+    }
+
+    pub fn known(&self, router: u32) -> Result<u64, Refusal> {
+        Ok(self.sets.known[self.router(router)?])
+    }
+
+    pub fn advertised(&self, router: u32) -> Result<u64, Refusal> {
+        Ok(self.sets.advertised[self.router(router)?])
     }
 
     fn path(&self, path: u32) -> Result<usize, Refusal> {

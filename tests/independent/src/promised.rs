@@ -58,11 +58,26 @@ impl Watch {
                 self.seen.rests += u64::from(rounds < ROUNDS && self.rounds == ROUNDS);
             }
             (Call::Settle, Ok(_)) => self.settle(played)?,
-            (Call::Trace(router), Ok(Answer::Way(answer))) => {
+            (Call::Trace(router, _), Ok(Answer::Way(answer))) => {
                 unaltered(before, after)?;
                 traced(after, *router as usize, answer)?;
             }
-            (Call::Best(_) | Call::Trace(_) | Call::Reopen, Ok(_)) => unaltered(before, after)?,
+            (Call::List(_), Ok(Answer::Text(text))) => {
+                unaltered(before, after)?;
+                listed(after, text)?;
+            }
+            (
+                Call::Best(_)
+                | Call::Metric(_)
+                | Call::Known(_)
+                | Call::Advertised(_)
+                | Call::Injected
+                | Call::IsSettled
+                | Call::Trace(..)
+                | Call::List(_)
+                | Call::Reopen,
+                Ok(_),
+            ) => unaltered(before, after)?,
         }
         self.packets(after)
     }
@@ -168,4 +183,19 @@ fn traced(network: &Network, router: usize, answer: &Option<(Vec<u8>, usize)>) -
     let way = way(table, &Distances::of(table), router, network.kept());
     let bytes = |Way { met, exit }| (met.into_iter().map(|met| met as u8).collect(), exit);
     check(*answer == way.map(bytes), "a trace is not the way")
+}
+
+/// The list has of each router what the network answers when it is asked for that router alone.
+fn listed(network: &Network, text: &str) -> Holds {
+    let mut lines = text.lines();
+    for router in 0..network.table().routers.len() as u32 {
+        let best = network.best(router).expect("it is declared");
+        let metric = network.metric(router).expect("it is declared");
+        let line = match best.zip(metric) {
+            Some((path, metric)) => format!("R{router} P{path} {metric}"),
+            None => format!("R{router} - -"),
+        };
+        check(lines.next() == Some(&line), "a line of the list differs")?;
+    }
+    check(lines.next().is_none(), "the list has a line too many")
 }

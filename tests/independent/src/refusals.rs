@@ -43,26 +43,33 @@ pub fn layer(number: u8) -> &'static str {
     }
 }
 
-/// The sentence of a refusal, as in the page's list.
+/// The sentence of a refusal, as in the page's list. Of a table it begins with the byte.
 pub fn words(refusal: Refusal) -> String {
     let Refusal { number, place } = refusal;
-    let words = match number {
-        1 => "the kind of the record is unknown",
-        2 => "the bytes end inside the record",
-        3 => "the kind of the record is lower than that of the one before",
-        4 => "the record is one more than the most of its kind",
-        5 => "a field of the record is out of range or names a router that no earlier record declares",
-        6 => "the record joins a router to itself, or two routers that an earlier one of its kind joins",
-        7 => "the session is not between two clients of one cluster",
-        8 => "there is no router",
-        9 => "the cluster of this client has no reflector",
-        10 => "no chain of links joins this router to router 0",
-        UNDECLARED_PATH => return format!("path {place} is not declared"),
-        UNDECLARED_ROUTER => return format!("router {place} is not declared"),
-        NO_ROUTER_NAMED => return "no router is named".into(),
-        ALREADY_INJECTED => return format!("path {place} is injected already"),
-        NOT_INJECTED => return format!("path {place} is not injected"),
-        _ => return format!("the buffer is shorter than {place} bytes"),
-    };
-    format!("byte {place}: {words}")
+    match number {
+        UNDECLARED_PATH => format!("path {place} is not declared"),
+        UNDECLARED_ROUTER => format!("router {place} is not declared"),
+        NO_ROUTER_NAMED => "no router is named".into(),
+        ALREADY_INJECTED => format!("path {place} is injected already"),
+        NOT_INJECTED => format!("path {place} is not injected"),
+        SHORT_BUFFER => format!("the buffer is shorter than {place} bytes"),
+        _ => format!("byte {place}: {}", OF_TABLES[number as usize - 1]),
+    }
 }
+
+/// The sentences of the refusals of a table, from number 1 on.
+const OF_TABLES: [&str; 10] = [
+    // records
+    "the kind of the record is unknown",
+    "the bytes end inside the record",
+    "the kind of the record is lower than that of the one before",
+    // the table
+    "the record is one more than the most of its kind",
+    "a field of the record is out of range or names a router that no earlier record declares",
+    "the record joins a router to itself, or two routers that an earlier one of its kind joins",
+    "the session joins two routers that are not both clients of the same cluster",
+    // its routers and links
+    "there is no router",
+    "the cluster of this client has no reflector",
+    "no chain of links joins this router to router 0",
+];

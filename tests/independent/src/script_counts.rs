@@ -1,38 +1,51 @@
 //! What the calls of random scripts came to.
 
 use crate::counts::add;
-use crate::phase::{Answer, Played};
+use crate::network::{LIST_BUFFER, TRACE_BUFFER};
+use crate::phase::{Answer, Phase, Played};
 use crate::promised::Seen;
-use crate::refusals::NAMES;
+use crate::refusals::{NAMES as REFUSALS, SHORT_BUFFER, UNDECLARED_ROUTER};
 use crate::replay::Replayed;
-use crate::script::Call;
-
-/// The refusals that a script can come to are those before this: `replay` has no short buffer.
-const SHORT_BUFFER: usize = 16;
+use crate::script::{Bad, Call, NAMES};
+use crate::table::MOST_ROUTERS;
 
 /// So many scripts must reach every refusal and every call.
 const ENOUGH: u64 = 200;
 
-const CALLS: [&str; 9] = [
-    "load", "inject", "withdraw", "restart", "step", "settle", "reopen", "best", "trace",
+/// What calls must come to besides.
+const CAME: [&str; 16] = [
+    "altered an advertised set",
+    "traced a packet that left",
+    "traced one that met 32 routers",
+    "traced one that left by another path than its first router takes",
+    "traced none",
+    "traced into a buffer of 32 bytes",
+    "traced into a longer one",
+    "refused a trace with 16",
+    "refused a trace with 12 into a buffer that is too short",
+    "listed into a buffer of 512 bytes",
+    "listed into a longer one",
+    "listed no router",
+    "refused a list with 16",
+    "answered no path, or no metric",
+    "answered that a network is not settled",
+    "ended by a buffer past the longest",
 ];
 
 #[derive(Clone, Default)]
 pub struct ScriptCounts {
     scripts: u64,
     calls: u64,
-    by_number: [u64; SHORT_BUFFER],
-    /// The accepted calls of each name.
-    by_call: [u64; CALLS.len()],
-    /// Calls that altered an advertised set, and calls that left the network settled.
-    altered: u64,
+    by_number: [u64; REFUSALS.len()],
+    /// The accepted calls of each name, of running networks and of settled ones.
+    by_call: [[u64; 2]; NAMES.len()],
+    /// How often each of `CAME` did.
+    came: [u64; CAME.len()],
+    /// Calls that left the network settled, and whether the last one did.
     settled: u64,
-    /// Whether the last one did.
     ends_settled: bool,
     /// Scripts that a bad line ended, and those that ended with a list.
     ends: [u64; 2],
-    /// Accepted traces of a packet that left.
-    traced: u64,
     seen: [u64; 3],
 }
 
@@ -41,12 +54,12 @@ impl ScriptCounts {
         self.calls += 1;
         match &played.answer {
             Err(refusal) => self.by_number[refusal.number as usize] += 1,
-            Ok(answer) => {
-                self.by_call[kind(&played.call)] += 1;
-                self.traced += u64::from(matches!(answer, Answer::Way(Some(_))));
+            Ok(_) => {
+                let phase = usize::from(matches!(played.before, Phase::Settled(_)));
+                self.by_call[kind(&played.call)][phase] += 1;
             }
         }
-        self.altered += u64::from(played.altered().next().is_some());
+        add(&mut self.came, &came(played).map(u64::from));
         self.ends_settled = played.after.network().is_settled();
         self.settled += u64::from(self.ends_settled);
     }
@@ -58,6 +71,8 @@ impl ScriptCounts {
         let ends = [bad, !bad && self.ends_settled];
         add(&mut self.ends, &ends.map(u64::from));
         self.ends_settled = false;
+        let too_long = matches!(replayed.bad, Some((_, Bad::TooLong(_))));
+        self.came[CAME.len() - 1] += u64::from(too_long);
         let Seen {
             rests,
             quiet_rounds,
@@ -70,11 +85,12 @@ impl ScriptCounts {
         self.scripts += other.scripts;
         self.calls += other.calls;
         add(&mut self.by_number, &other.by_number);
-        add(&mut self.by_call, &other.by_call);
-        self.altered += other.altered;
+        for (counts, others) in self.by_call.iter_mut().zip(&other.by_call) {
+            add(counts, others);
+        }
+        add(&mut self.came, &other.came);
         self.settled += other.settled;
         add(&mut self.ends, &other.ends);
-        self.traced += other.traced;
         add(&mut self.seen, &other.seen);
     }
 
@@ -84,15 +100,20 @@ impl ScriptCounts {
         let [bad, lists] = self.ends;
         println!("ended by a bad line: {bad}, with a list: {lists}");
         for (number, times) in self.by_number.iter().enumerate().skip(1) {
-            println!("refused with {number:2}, {}: {times}", NAMES[number]);
+            println!("refused with {number:2}, {}: {times}", REFUSALS[number]);
         }
         println!("refused: {}", self.refused());
-        let accepted = CALLS.iter().zip(self.by_call);
-        let accepted: Vec<String> = accepted.map(|(name, n)| format!("{name} {n}")).collect();
-        println!("accepted: {}", accepted.join(", "));
-        println!("altered an advertised set: {}", self.altered);
+        for (phase, name) in ["running", "settled"].into_iter().enumerate() {
+            let calls = NAMES.iter().zip(self.by_call);
+            let offered = calls.filter(|(call, _)| offered(call)[phase]);
+            let accepted = offered.map(|(call, times)| format!("{call} {}", times[phase]));
+            let accepted: Vec<String> = accepted.collect();
+            println!("accepted by a {name} network: {}", accepted.join(", "));
+        }
+        for (what, times) in CAME.iter().zip(self.came) {
+            println!("{what}: {times}");
+        }
         println!("left the network settled: {}", self.settled);
-        println!("traced a packet that left: {}", self.traced);
         let [rests, quiet_rounds, packets] = self.seen;
         println!("six rounds after a change, outside of settle: {rests}");
         println!("rounds without an alteration, outside of settle: {quiet_rounds}");
@@ -106,25 +127,80 @@ impl ScriptCounts {
         self.by_number.iter().sum()
     }
 
+    /// Whether each call was accepted by networks of each kind that offers it.
+    fn all_accepted(&self) -> bool {
+        NAMES.iter().zip(self.by_call).all(|(call, times)| {
+            let mut kinds = offered(call).into_iter().zip(times);
+            kinds.all(|(offered, times)| !offered || times > 0)
+        })
+    }
+
     /// What the scripts should have reached and did not, if anything.
-    pub fn missing(&self) -> Option<&'static str> {
+    pub fn missing(&self) -> Option<String> {
         let never = |times: &[u64]| times.contains(&0);
         let (calls, refused) = (self.calls, self.refused());
-        if self.scripts < ENOUGH {
-            None
+        let why = if self.scripts < ENOUGH {
+            return None;
         } else if never(&self.by_number[1..]) {
-            Some("some refusal was never reached")
-        } else if never(&self.by_call) || never(&[self.altered, self.traced]) {
-            Some("some call was never accepted, or never did anything")
+            "some refusal was never reached"
+        } else if !self.all_accepted() {
+            "some call was never accepted"
+        } else if let Some(what) = self.came.iter().position(|times| *times == 0) {
+            return Some(format!("never {}", CAME[what]));
         } else if never(&self.ends) || never(&self.seen) {
-            Some("some end never came, or some promise had nothing to say")
+            "some end never came, or some promise had nothing to say"
         } else if refused * 4 < calls || calls < refused * 2 {
-            Some("fewer than a quarter of the calls were refused, or more than half")
+            "fewer than a quarter of the calls were refused, or more than half"
         } else if self.settled * 4 < calls || calls * 9 < self.settled * 10 {
-            Some("fewer than a quarter of the calls left the network settled, or nearly all")
+            "fewer than a quarter of the calls left the network settled, or nearly all"
         } else {
-            None
+            return None;
+        };
+        Some(why.into())
+    }
+}
+
+/// Which of `CAME` a call came to, but for the last, to which none does.
+fn came(played: &Played) -> [bool; CAME.len()] {
+    let network = played.before.network();
+    let mut came = [false; CAME.len()];
+    came[0] = played.altered().next().is_some();
+    match (&played.call, &played.answer) {
+        (Call::Trace(router, length), Ok(Answer::Way(way))) => {
+            if let Some((met, exit)) = way {
+                came[1] = true;
+                came[2] = met.len() == MOST_ROUTERS;
+                came[3] = network.best(*router) != Ok(Some(*exit));
+            }
+            came[4] = way.is_none();
+            came[5] = *length == TRACE_BUFFER;
+            came[6] = *length > TRACE_BUFFER;
         }
+        (Call::Trace(_, length), Err(refusal)) => {
+            came[7] = refusal.number == SHORT_BUFFER;
+            came[8] = refusal.number == UNDECLARED_ROUTER && *length < TRACE_BUFFER;
+        }
+        (Call::List(length), Ok(Answer::Text(text))) => {
+            came[9] = *length == LIST_BUFFER;
+            came[10] = *length > LIST_BUFFER;
+            came[11] = text.is_empty();
+        }
+        (Call::List(_), Err(_)) => came[12] = true,
+        (_, Ok(answer)) => {
+            came[13] = matches!(answer, Answer::Best(None) | Answer::Metric(None));
+            came[14] = *answer == Answer::IsSettled(false);
+        }
+        _ => (),
+    }
+    came
+}
+
+/// Whether a running network offers the call, and whether a settled one does.
+fn offered(call: &str) -> [bool; 2] {
+    match call {
+        "trace" | "list" | "reopen" => [false, true],
+        "best" | "metric" | "known" | "advertised" | "injected" | "settled" => [true, true],
+        _ => [true, false],
     }
 }
 
@@ -132,39 +208,80 @@ impl ScriptCounts {
 fn kind(call: &Call) -> usize {
     let text = call.to_string();
     let name = text.split(' ').next();
-    let place = CALLS.iter().position(|of| Some(*of) == name);
+    let place = NAMES.iter().position(|of| Some(*of) == name);
     place.expect("a call has a name")
 }
 
 #[cfg(test)]
 mod tests {
     use super::*;
+    use crate::random::Random;
+    use crate::replay::replay;
+    use crate::scripts::Script;
 
-    #[test]
-    fn enough_scripts_must_reach_every_refusal() {
-        let mut counts = ScriptCounts {
+    fn enough() -> ScriptCounts {
+        ScriptCounts {
             scripts: ENOUGH,
-            calls: 50,
-            by_number: [1; SHORT_BUFFER],
-            by_call: [1; CALLS.len()],
-            altered: 1,
+            calls: 60,
+            by_number: [1; REFUSALS.len()],
+            by_call: [[1; 2]; NAMES.len()],
+            came: [1; CAME.len()],
             settled: 30,
             ends_settled: false,
             ends: [1; 2],
-            traced: 1,
             seen: [1; 3],
-        };
+        }
+    }
+
+    #[test]
+    fn enough_scripts_must_reach_every_refusal() {
+        let mut counts = enough();
         assert_eq!(counts.missing(), None);
-        counts.by_number[13] = 0;
+        counts.by_number[16] = 0;
         assert!(counts.missing().is_some());
         counts.scripts -= 1;
         assert_eq!(counts.missing(), None);
     }
 
     #[test]
+    fn enough_scripts_must_reach_every_call_and_the_longest_way() {
+        let mut counts = enough();
+        let list = kind(&Call::List(512));
+        counts.by_call[list] = [0, 1];
+        assert_eq!(counts.missing(), None);
+        counts.by_call[list] = [1, 0];
+        assert_eq!(counts.missing().unwrap(), "some call was never accepted");
+        counts.by_call[list] = [0, 1];
+        counts.came[2] = 0;
+        let missing = "never traced one that met 32 routers";
+        assert_eq!(counts.missing().unwrap(), missing);
+    }
+
+    #[test]
     fn every_call_has_its_name() {
-        assert_eq!(CALLS[kind(&Call::Load("a".into()))], "load");
-        assert_eq!(CALLS[kind(&Call::Step(0))], "step");
-        assert_eq!(CALLS[kind(&Call::Reopen)], "reopen");
+        assert_eq!(NAMES[kind(&Call::Load("a".into()))], "load");
+        assert_eq!(NAMES[kind(&Call::Step(0))], "step");
+        assert_eq!(NAMES[kind(&Call::Reopen)], "reopen");
+        assert_eq!(NAMES[kind(&Call::Trace(0, 20))], "trace");
+        assert_eq!(NAMES[kind(&Call::IsSettled)], "settled");
+    }
+
+    #[test]
+    fn random_scripts_reach_all_of_it() {
+        let mut counts = ScriptCounts::default();
+        for number in 0..ENOUGH {
+            let script = Script::draw(&mut Random::numbered(2, number));
+            let read = |file: &str| script.tables.read(file);
+            let replayed = replay(script.text.as_bytes(), &read, |played| counts.call(played));
+            counts.script(
+                &replayed,
+                Seen {
+                    rests: 1,
+                    quiet_rounds: 1,
+                    packets: 1,
+                },
+            );
+        }
+        assert_eq!(counts.missing(), None);
     }
 }

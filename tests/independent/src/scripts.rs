@@ -3,7 +3,7 @@
 use crate::random::Random;
 use crate::spelling;
 use crate::table;
-use crate::tables::{self, Size};
+use crate::tables::{self, Size, FULL};
 use crate::writer::Writer;
 use crate::{damage, encode};
 use std::io;
@@ -71,18 +71,29 @@ impl Tables {
     }
 }
 
-/// Half of the tables are small, so that many rounds fit in a script.
+/// Half of the tables are small, so that many rounds fit in a script. Half of the others have
+/// 32 routers in a row.
 fn sound(random: &mut Random) -> Vec<u8> {
-    let table = if random.once_in(2) {
-        tables::any(random)
-    } else {
-        let size = Size {
-            routers: random.between(1, 8),
-            links: random.between(0, 12),
-            sessions: random.between(0, 6),
-            paths: random.between(1, 8),
-        };
-        tables::of_size(random, size)
+    let table = match random.below(8) {
+        0 | 1 => tables::line(random),
+        2 => {
+            let size = Size {
+                links: random.between(0, 40),
+                paths: random.between(1, FULL.paths),
+                ..FULL
+            };
+            tables::of_size(random, size)
+        }
+        3 => tables::any(random),
+        _ => {
+            let size = Size {
+                routers: random.between(1, 8),
+                links: random.between(0, 12),
+                sessions: random.between(0, 6),
+                paths: random.between(1, 8),
+            };
+            tables::of_size(random, size)
+        }
     };
     encode::records(&table).concat()
 }
@@ -110,7 +121,7 @@ mod tests {
             let script = Script::draw(&mut Random::numbered(1, number));
             let mut watch = Watch::default();
             let read = |file: &str| script.tables.read(file);
-            replay(&script.text, &read, |played| {
+            replay(script.text.as_bytes(), &read, |played| {
                 watch.call(played).unwrap();
                 calls += 1;
                 refused += usize::from(played.answer.is_err());

@@ -41,6 +41,40 @@ pub fn any(random: &mut Random) -> Table {
     of_size(random, size)
 }
 
+/// A table whose 32 routers the links join in a row. Either all exits are at one end of it or near
+/// that; or they are anywhere, and as all are kept and some cost much, packets leave on their way.
+pub fn line(random: &mut Random) -> Table {
+    let size = Size {
+        links: MOST_ROUTERS - 1,
+        sessions: random.between(0, MOST_SESSIONS),
+        paths: random.between(1, MOST_PATHS),
+        ..FULL
+    };
+    let mut table = of_size(random, size);
+    let mut row: Vec<u8> = (0..MOST_ROUTERS as u8).collect();
+    random.shuffle(&mut row);
+    for (link, ends) in table.links.iter_mut().zip(row.windows(2)) {
+        (link.from, link.to) = either_way(random, (ends[0], ends[1]));
+    }
+    random.shuffle(&mut table.links);
+    if random.once_in(3) {
+        let like = table.paths[0];
+        for path in &mut table.paths {
+            path.exit_point = random.pick(&row);
+            path.exit_cost = random.pick(&[0, 1000, 65_535]);
+            path.preference = like.preference;
+            path.length = like.length;
+            path.med = like.med;
+        }
+    } else {
+        let near = random.pick(&[1, 1, 1, 2, 8]);
+        for path in &mut table.paths {
+            path.exit_point = row[random.below(near)];
+        }
+    }
+    table
+}
+
 pub fn of_size(random: &mut Random, size: Size) -> Table {
     let routers = routers(random, size);
     let links = links(random, size);

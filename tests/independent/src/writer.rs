@@ -1,9 +1,10 @@
 //! Writes the calls of a random script. About a third of them is refused, and the others are such
 //! that the network often comes to rest.
 
+use crate::network::{LIST_BUFFER, TRACE_BUFFER};
 use crate::phase::Phase;
 use crate::random::Random;
-use crate::script::Call;
+use crate::script::{Call, MOST_BUFFER};
 use crate::scripts::Tables;
 use crate::sets::{below, members};
 use crate::spelling;
@@ -47,7 +48,7 @@ impl<'a> Writer<'a> {
                 7 => self.restart(),
                 8 => self.steps(),
                 9..=12 => self.rounds(),
-                13 => self.best(),
+                13 => self.questions(),
                 _ => self.settle(),
             }
         }
@@ -105,26 +106,93 @@ impl<'a> Writer<'a> {
                 self.say(Call::Step(part | again));
             }
             if self.random.once_in(6) {
-                self.best();
+                self.question();
             }
         }
     }
 
-    fn best(&mut self) {
-        let router = self.random.below(self.routers().max(1));
-        self.say(Call::Best(router as u32));
+    fn questions(&mut self) {
+        for _ in 0..self.random.between(1, 4) {
+            self.question();
+        }
+    }
+
+    /// What a network answers whether it runs or is settled.
+    fn question(&mut self) {
+        let router = self.router();
+        let question = match self.random.below(6) {
+            0 => Call::Injected,
+            1 => Call::IsSettled,
+            _ => self.question_of(router),
+        };
+        self.say(question);
     }
 
     fn settle(&mut self) {
         self.say(Call::Settle);
         for _ in 0..self.random.below(6) {
-            let router = self.random.below(self.routers().max(1)) as u32;
-            match self.random.below(3) {
-                0 => self.say(Call::Best(router)),
-                _ => self.say(Call::Trace(router)),
+            match self.random.below(6) {
+                0 => {
+                    let length = self.long(LIST_BUFFER);
+                    self.say(Call::List(length));
+                }
+                1 | 2 => self.question(),
+                _ => self.trace(),
             }
         }
         self.say(Call::Reopen);
+    }
+
+    /// From any router, and often from one whose packet goes far or leaves by another's exit.
+    fn trace(&mut self) {
+        let any = self.router();
+        let early = self.early().unwrap_or(any);
+        let router = self.random.pick(&[any, early, self.farthest()]);
+        let length = self.long(TRACE_BUFFER);
+        self.say(Call::Trace(router, length));
+    }
+
+    /// A declared router, where there is one.
+    fn router(&mut self) -> u32 {
+        self.random.below(self.routers().max(1)) as u32
+    }
+
+    /// The router whose packet meets the most, where packets leave.
+    fn farthest(&self) -> u32 {
+        let meets = |router: &u32| self.way(*router).map(|(count, _)| count);
+        let routers = 0..self.routers() as u32;
+        routers.max_by_key(meets).unwrap_or(0)
+    }
+
+    /// A router whose packet leaves by another path than the router takes.
+    fn early(&self) -> Option<u32> {
+        let mut routers = 0..self.routers() as u32;
+        routers.find(|router| {
+            let taken = self.network.network().best(*router);
+            let exit = self.way(*router).map(|(_, exit)| exit);
+            exit.is_some() && taken != Ok(exit)
+        })
+    }
+
+    /// How many routers a packet meets and by which path it leaves, where the network is settled.
+    fn way(&self, router: u32) -> Option<(usize, usize)> {
+        match &self.network {
+            Phase::Running(_) => None,
+            Phase::Settled(network) => network.trace(router, &mut [0; TRACE_BUFFER]).ok()?,
+        }
+    }
+
+    /// The length of a buffer that suffices, most often just.
+    fn long(&mut self, least: usize) -> usize {
+        let some = self.random.between(least, 2 * least);
+        self.random
+            .pick(&[least, least, least, least, least + 1, some, MOST_BUFFER])
+    }
+
+    /// The length of one that does not, most often just.
+    fn short(&mut self, least: usize) -> usize {
+        let some = self.random.below(least);
+        self.random.pick(&[least - 1, least - 1, some, 0])
     }
 
     /// The call, and at times others before it that are refused.
@@ -150,9 +218,15 @@ impl<'a> Writer<'a> {
     fn refused(&mut self) -> Call {
         let no_router = self.past(self.routers());
         if let Phase::Settled(_) = self.network {
-            return match self.random.below(2) {
-                0 => Call::Best(no_router),
-                _ => Call::Trace(no_router),
+            let (long, short) = (self.long(TRACE_BUFFER), self.short(TRACE_BUFFER));
+            let list = self.short(LIST_BUFFER);
+            return match self.random.below(10) {
+                0 | 1 => Call::Trace(no_router, long),
+                2 => Call::Trace(no_router, short),
+                // Refused with 12 where there is no router at all.
+                3 | 4 => Call::Trace(self.router(), short),
+                5 | 6 => Call::List(list),
+                _ => self.question_of(no_router),
             };
         }
         let no_path = self.past(self.declared().count_ones() as usize);
@@ -165,7 +239,7 @@ impl<'a> Writer<'a> {
             Call::Withdraw(no_path),
             Call::Restart(no_router),
             Call::Step(0),
-            Call::Best(no_router),
+            self.question_of(no_router),
         ];
         let some = self.random.word() as u32 & self.random.word() as u32;
         let undeclared = u32::MAX.checked_shl(self.routers() as u32).unwrap_or(0);
@@ -177,6 +251,16 @@ impl<'a> Writer<'a> {
         let others = self.some(self.declared() & !self.injected(), 1);
         calls.extend(others.into_iter().map(Call::Withdraw));
         calls.swap_remove(self.random.below(calls.len()))
+    }
+
+    /// A question about this router.
+    fn question_of(&mut self, router: u32) -> Call {
+        match self.random.below(4) {
+            0 => Call::Best(router),
+            1 => Call::Metric(router),
+            2 => Call::Known(router),
+            _ => Call::Advertised(router),
+        }
     }
 
     /// A number that is not declared where these many are.

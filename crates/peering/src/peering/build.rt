@@ -16,7 +16,7 @@ impl Peering {
         let mut peers = [RouterSet::empty(); 32];
         let table = distances.table();
         for v in 0..table.routers().len() {
-            exits[v] = table.exits_at(v as u32);
+            exits[v] = table.exits_at(v as u32).unwrap_or_default();
             client_exits[v] = client_exits_of(table, v);
             peers[v] = peers_of(table, v);
         }

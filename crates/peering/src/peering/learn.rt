@@ -1,10 +1,11 @@
-ghost use Rattle.std.specs.Prelude.{◌≡◌, ℕ, ◌<◌, ◌≤◌, ◌&&◌, not, length, nat_lt};
-ghost use Rattle.distances.specs.Answered.{declared_by};
+ghost use Rattle.std.specs.Prelude.{◌≡◌, ℕ, ◌<◌, ◌&&◌, not, length, nat_lt, Ok, IfOk};
+ghost use Rattle.distances.specs.Answered.{declared_by, of_router};
 ghost use Rattle.protocol.specs.Network.{own_of, learned};
 ghost use Rattle.sets.specs.Members.{member};
 ghost use Rattle.peering.specs.Peered.{exits_by, client_exits_by, peer_by, reflected_by, passed_by};
 
 use crate::peering::Peering;
+use faults::CallFault;
 use layout::Role;
 use sets::{PathSet, RouterSet};
 
@@ -75,30 +76,39 @@ impl Peering {
         set.intersection(self.exits_of(w).union(self.reflected(w, v)))
     }
 
-    // The injected paths of a router; none where it is not declared.
-    pub fn own(&self, injected: PathSet, v: usize) -> PathSet
-        ensures undeclared { length (declared_by self.now.distances).routers ≤ v → result ≡ 0 }
-        ensures own { v < length (declared_by self.now.distances).routers → result ≡ own_of (declared_by self.now.distances) injected v }
+    // The index of a router, where it is declared.
+    fn index_of(&self, router: u32) -> Result<usize, CallFault>
+        ensures value { result ≡ of_router (declared_by self.now.distances) router (Ok router) }
+        ensures below { IfOk result (λ v.
+            (v ≡ router) × (v < length (declared_by self.now.distances).routers)) }
     {
-        if v >= self.distances.table().routers().len() {
-            return PathSet::empty();
-        }
-        injected.intersection(self.exits_of(v))
+        self.distances.table().index_of(router)
     }
 
-    // What a router learns: of the injected paths its own, and what its peers pass of the sets that they advertise. Nothing
-    // where it is not declared.
-    pub fn learned(&self, injected: PathSet, advertised: &[PathSet; 32], v: usize) -> PathSet
-        ensures undeclared { length (declared_by self.now.distances).routers ≤ v → result ≡ 0 }
-        ensures learned { v < length (declared_by self.now.distances).routers → result ≡ learned (declared_by self.now.distances) injected advertised.now v }
+    // The injected paths of a router.
+    pub fn own(&self, injected: PathSet, router: u32) -> Result<PathSet, CallFault>
+        ensures { result ≡ of_router (declared_by self.now.distances) router
+            (Ok (own_of (declared_by self.now.distances) injected router)) }
     {
-        if v >= self.distances.table().routers().len() {
-            return PathSet::empty();
-        }
+        let v = self.index_of(router)?;
+        Ok(injected.intersection(self.exits_of(v)))
+    }
+
+    // What a router learns: of the injected paths its own, and what its peers pass of the sets that they advertise.
+    pub fn learned(
+        &self,
+        injected: PathSet,
+        advertised: &[PathSet; 32],
+        router: u32,
+    ) -> Result<PathSet, CallFault>
+        ensures { result ≡ of_router (declared_by self.now.distances) router
+            (Ok (learned (declared_by self.now.distances) injected advertised.now router)) }
+    {
+        let v = self.index_of(router)?;
         let mut known = injected.intersection(self.exits_of(v));
         for w in self.peers_of(v) {
             known = known.union(self.passed(w as usize, v, advertised[w as usize]));
         }
-        known
+        Ok(known)
     }
 }

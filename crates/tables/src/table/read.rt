@@ -1,4 +1,5 @@
 ghost use Rattle.std.specs.Prelude.{◌≡◌};
+ghost use Rattle.layout.specs.Answer.{AnswerTells};
 ghost use Rattle.layout.specs.Graph.{whole};
 ghost use Rattle.layout.specs.Promise.{Reads};
 ghost use Rattle.layout.specs.Reading.{table_in};
@@ -38,6 +39,7 @@ impl Table {
     pub fn read(bytes: &[u8]) -> Result<Table, LoadFault>
         ensures value { answer result ≡ table_in bytes.now }
         ensures promise { Reads bytes.now (answer result) }
+        ensures told { AnswerTells bytes.now (answer result) }
     {
         let mut declarations = Declarations::new();
         let mut reader = Reader::new(bytes);

@@ -1,16 +1,21 @@
-ghost use Rattle.std.specs.Prelude.{◌≡◌, map, ◌&&◌, nat_lt};
+ghost use Rattle.std.specs.Prelude.{◌≡◌, map, Ok};
 ghost use Rattle.layout.specs.Checks.{repeats};
 ghost use Rattle.layout.specs.WellFormed.{session_ends};
 ghost use Rattle.tables.specs.Accepted.{declared};
+ghost use Rattle.tables.specs.Asked.{of_routers};
 
 use crate::table::Table;
+use faults::CallFault;
 use layout::Pair;
 
 impl Table {
-    // Whether a client session joins two routers, in either order.
-    pub fn in_session(&self, pair: Pair) -> bool
-        ensures { result ≡ (nat_lt pair.a 32 && (nat_lt pair.b 32 && repeats pair (map session_ends (declared self.now).sessions))) }
+    // Whether a client session joins two routers, in either order. Of two undeclared ones the lower is refused.
+    pub fn in_session(&self, pair: Pair) -> Result<bool, CallFault>
+        ensures { result ≡ of_routers (declared self.now) pair.a pair.b
+            (Ok (repeats pair (map session_ends (declared self.now).sessions))) }
     {
-        self.declarations.in_session(pair)
+        self.index_of(u32::from(pair.a.min(pair.b)))?;
+        self.index_of(u32::from(pair.a.max(pair.b)))?;
+        Ok(self.declarations.in_session(pair))
     }
 }

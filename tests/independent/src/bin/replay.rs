@@ -9,7 +9,6 @@ fn main() {
     io::stdin()
         .read_to_end(&mut script)
         .expect("standard input can be read");
-    let script = String::from_utf8_lossy(&script);
     let replayed = replay(&script, &|file| fs::read(file), |_| ());
     print!("{}", replayed.printed);
     if let Some(message) = replayed.message() {

@@ -5,8 +5,7 @@ use independent::many::{arguments, play_all, stop};
 use independent::program::{run_in, Ran};
 use independent::promised::Watch;
 use independent::random::Random;
-use independent::replay::{message_start, replay, Replayed};
-use independent::script::Bad;
+use independent::replay::{replay, Replayed};
 use independent::script_counts::ScriptCounts;
 use independent::scripts::Script;
 use std::path::Path;
@@ -25,7 +24,7 @@ fn main() {
     let counts = compare(scripts, seed, &program).unwrap_or_else(|difference| stop(&difference));
     counts.print();
     if let Some(missing) = counts.missing() {
-        stop(missing);
+        stop(&missing);
     }
 }
 
@@ -90,7 +89,7 @@ fn own(folder: &Path, script: &str, counts: &mut ScriptCounts) -> Result<Replaye
     let read = |file: &str| fs::read(folder.join(file));
     let mut watch = Watch::default();
     let mut broken = None;
-    let replayed = replay(script, &read, |played| {
+    let replayed = replay(script.as_bytes(), &read, |played| {
         counts.call(played);
         if let (None, Err(what)) = (&broken, watch.call(played)) {
             broken = Some(format!(
@@ -116,26 +115,16 @@ fn difference(theirs: &str, own: &str) -> String {
     unreachable!("there is a difference")
 }
 
-/// How the program ends. The page fixes which line standard error names, and all of what it says
-/// where the first word is no call's.
+/// How the program ends.
 fn end(theirs: &Ran, own: &Replayed) -> Result<(), String> {
-    let message = &theirs.message;
-    let (line, bad) = match &own.bad {
-        None if theirs.succeeded => return Ok(()),
-        None => return Err(format!("the program fails: {message}")),
-        Some(bad) => bad,
-    };
-    let whole = own.message().expect("a line is bad") + "\n";
-    let is_so = match bad {
-        Bad::NoCall(_) => *message == whole,
-        _ => message.starts_with(&message_start(*line)),
-    };
-    if !is_so {
-        Err(format!("standard error has:\n{message}and not:\n{whole}"))
-    } else if theirs.succeeded {
-        Err(format!(
-            "the program ends with status 0, and with:\n{message}"
-        ))
+    let printed = &theirs.message;
+    let message = own.message().map_or(String::new(), |line| line + "\n");
+    let succeeds = own.bad.is_none();
+    if *printed != message {
+        Err(format!("standard error has:\n{printed}and not:\n{message}"))
+    } else if theirs.succeeded != succeeds {
+        let how = ["another status than 0", "status 0"][usize::from(theirs.succeeded)];
+        Err(format!("the program ends with {how}, and with:\n{printed}"))
     } else {
         Ok(())
     }

@@ -1,11 +1,12 @@
-use Rattle.std.proofs.Common.{rules, ◌≡◌, ℕ, suc, slice_set, List, ◌+◌, ◌++◌, ◌∷◌, [], take, map, sym, ap, ◌∙◌, arith}
+use Rattle.std.proofs.Common.{rules, ◌≡◌, ℕ, suc, slice_set, List, ◌+◌, ◌++◌, ◌∷◌, [], take, map, Ok, sym, ap, ◌∙◌, arith}
 use Rattle.std.proofs.Math.Seq.{take-suc-set}
 use Rattle.std.proofs.lemmas.Bool.Decides.{nat_tests}
 use Rattle.std.proofs.lemmas.List.FromFn.{map-range_with_len_more}
 use Rattle.std.specs.Option.{unwrap_or}
 use Rattle.std.specs.List.{range_with_len}
 use Rattle.costs.specs.Cost.{plain}
-use Rattle.distances.specs.Answered.{declared_by}
+use Rattle.distances.specs.Answered.{declared_by, of_router}
+use Rattle.forwarding.proofs.Refused.{best_where_declared}
 use Rattle.packets.specs.Best.{best}
 use Rattle.direct.proofs.sending.write.Goals as goal
 
@@ -16,7 +17,8 @@ loop-router-preserved c =
     let v = c.loop-router.router in
     let byte : ℕ → ℕ = λ w. unwrap_or (best plain t s w) 255 in
     let next : v + 1 ≡ suc v = omega arith in
-    let found : c.in_ok-best.field-0 ≡ best plain t s v = grind (arith, nat_tests, c.in_ok-best.ensures.value) in
+    let told : Ok c.in_ok-best.field-0 ≡ of_router t v (Ok (best plain t s v)) = c.in_ok-best.ensures.value ∙ best_where_declared t s c.requires.all v in
+    let found : c.in_ok-best.field-0 ≡ best plain t s v = grind (arith, nat_tests, told) in
     let written : c.unwrap_or.result ≡ byte v =
     c.unwrap_or.ensures ∙ ap (λ o. unwrap_or o 255) found in (
       search rules,

@@ -1,15 +1,23 @@
 use Rattle.std.proofs.Common.{◌≡◌, true, false, cond, get_or, subst, refl, ap, sym, ◌∙◌, arith}
 use Rattle.protocol.specs.Network.{State}
-use Rattle.protocol.specs.Runs.{AllCome}
-use Rattle.calls.specs.Turns.{moves_of, offered, settled_after, after_call, turned}
+use Rattle.protocol.proofs.SixRounds.{six_rounds}
+use Rattle.calls.specs.Turns.{World, beginning, offered, next, turned}
+use Rattle.calls.proofs.Coming.{call_comes}
+use Rattle.calls.proofs.Resulting.{follows}
 use Rattle.calls.proofs.Stepping.{SoFar, so_far_begins, one_made, none_made, ran_out}
-use Rattle.reflectors.specs.Reached.{rule_in, state_in, is_settled}
+use Rattle.reflectors.specs.Reached.{rule_in, was_settled, world_in}
 use Rattle.reflectors.proofs.playing.play.Goals as goal
 
 pub loop-turn-init : goal.loop-turn-init
 loop-turn-init g c =
     let kept = g.R.Rule.kept c.args.rule in
-    record { so = subst (λ (s : State). SoFar kept c.args.turns.now 0 c.args.turns.now s false) (sym c.new.ensures.state) (so_far_begins kept c.args.turns.now); rule = c.new.ensures.rule; count = refl }
+    record {
+      so =
+          subst (λ (s : State). SoFar kept c.args.bytes.now c.args.turns.now 0 c.args.turns.now (record { network = s; settled = false; bytes = c.args.bytes.now })) (sym c.new.ensures.state)
+          (so_far_begins kept c.args.bytes.now c.args.turns.now);
+      rule = c.new.ensures.rule;
+      count = refl;
+    }
 
 -- the call was made
 pub loop-turn-preserved : goal.loop-turn-preserved
@@ -22,14 +30,13 @@ loop-turn-preserved g c =
     let t = get_or c.loop-turn.turns c.loop-turn.turn-index d in
     let made = c.if-not-made.false in
     let n = c.loop-turn.network in
-    let offers : offered (is_settled n) t.call ≡ true = sym said.made ∙ made in
+    let w = world_in n c.loop-turn.bytes in
+    let offers : offered (was_settled n) t.call ≡ true = sym said.made ∙ made in
     record {
       so =
-          one_made k c.args.turns.now h.so d c.loop-turn-test.true offers
-          (subst (λ r. AllCome (kept r) (state_in n) (moves_of (state_in n) t.call)) h.rule (said.comes offers))
-          (said.turn ∙ ap (λ b. cond b (turned (kept (rule_in n)) (state_in n) t) t) made ∙ ap (λ r. turned (kept r) (state_in n) t) h.rule)
-          (said.state ∙ ap (λ b. cond b (after_call (kept (rule_in n)) (state_in n) t.call) (state_in n)) made ∙ ap (λ r. after_call (kept r) (state_in n) t.call) h.rule)
-          (said.settled ∙ ap (λ b. cond b (settled_after (is_settled n) t.call) (is_settled n)) made);
+          one_made k c.args.bytes.now c.args.turns.now h.so d c.loop-turn-test.true offers (said.typed made) (call_comes k w.network t.call (said.typed made))
+          (said.turn ∙ ap (λ b. cond b (turned (kept (rule_in n)) w t) t) made ∙ ap (λ r. turned (kept r) w t) h.rule)
+          (said.world ∙ ap (λ b. cond b (next (kept (rule_in n)) w t.call) w) made ∙ ap (λ r. next (kept r) w t.call) h.rule);
       rule = said.rule ∙ h.rule;
       count = omega (arith, h.count);
     }
@@ -43,17 +50,17 @@ returns-then-not-made g c =
     let d = c.turn-item.result in
     let t = get_or c.loop-turn.turns c.loop-turn.turn-index d in
     let n = c.loop-turn.network in
+    let w = world_in n c.loop-turn.bytes in
     let made = c.if-not-made.true in
     let end =
-    none_made k c.args.turns.now h.so (g.R.Rule.laws c.args.rule) d c.loop-turn-test.true (sym said.made ∙ made)
-    (said.turn ∙ ap (λ b. cond b (turned (g.R.Rule.kept (rule_in n)) (state_in n) t) t) made)
-    (said.state ∙ ap (λ b. cond b (after_call (g.R.Rule.kept (rule_in n)) (state_in n) t.call) (state_in n)) made)
-    (said.settled ∙ ap (λ b. cond b (settled_after (is_settled n) t.call) (is_settled n)) made) in
-    record { turns = end.turns_are; played = h.count ∙ end.made; state = end.network; settled = end.flag; rule = said.rule ∙ h.rule; plays = end.plays }
+    none_made k c.args.bytes.now c.args.turns.now h.so (g.R.Rule.laws c.args.rule) d c.loop-turn-test.true (sym said.made ∙ made)
+    (said.turn ∙ ap (λ b. cond b (turned (g.R.Rule.kept (rule_in n)) w t) t) made)
+    (said.world ∙ ap (λ b. cond b (next (g.R.Rule.kept (rule_in n)) w t.call) w) made) in
+    record { turns = end.turns_are; played = h.count ∙ end.made; world = end.world; rule = said.rule ∙ h.rule; plays = end.plays; follows = follows end.plays; six = six_rounds }
 
 -- all were made
 pub returns : goal.returns
 returns g c =
     let h = c.loop-turn.invariant in
-    let end = ran_out (g.R.Rule.kept c.args.rule) c.args.turns.now h.so (g.R.Rule.laws c.args.rule) c.loop-turn-test.false in
-    record { turns = end.turns_are; played = h.count ∙ end.made; state = end.network; settled = end.flag; rule = h.rule; plays = end.plays }
+    let end = ran_out (g.R.Rule.kept c.args.rule) c.args.bytes.now c.args.turns.now h.so (g.R.Rule.laws c.args.rule) c.loop-turn-test.false in
+    record { turns = end.turns_are; played = h.count ∙ end.made; world = end.world; rule = h.rule; plays = end.plays; follows = follows end.plays; six = six_rounds }

@@ -2,7 +2,7 @@ use Rattle.std.proofs.Common.{rules, Ok, sym, ap, ◌∙◌, subst}
 use Rattle.layout.proofs.Progress.{Progress, goes_on}
 use Rattle.records.specs.Readings.{standing, passing, answered}
 use Rattle.declarations.specs.Held.{declared_in}
-use Rattle.tables.proofs.Answered.{promised}
+use Rattle.tables.proofs.Answered.{promised, told}
 use Rattle.tables.proofs.table.Table.read.Goals as goal
 
 pub loop-found-preserved : goal.loop-found-preserved
@@ -23,3 +23,15 @@ returns-in_err-checked-clause-promise c = promised c.args.bytes.now _ c.type_inv
 
 pub returns-clause-promise : goal.returns-clause-promise
 returns-clause-promise c = promised c.args.bytes.now _ c.type_inv.bytes (search rules)
+
+pub returns-in_err-found-clause-told : goal.returns-in_err-found-clause-told
+returns-in_err-found-clause-told c = told c.args.bytes.now _ c.type_inv.bytes (search rules)
+
+pub returns-in_err-declare-clause-told : goal.returns-in_err-declare-clause-told
+returns-in_err-declare-clause-told c = told c.args.bytes.now _ c.type_inv.bytes (search rules)
+
+pub returns-in_err-checked-clause-told : goal.returns-in_err-checked-clause-told
+returns-in_err-checked-clause-told c = told c.args.bytes.now _ c.type_inv.bytes (search rules)
+
+pub returns-clause-told : goal.returns-clause-told
+returns-clause-told c = told c.args.bytes.now _ c.type_inv.bytes (search rules)

@@ -1,6 +1,0 @@
-use Rattle.std.proofs.Common.{arith}
-use Rattle.network.proofs.network.Network.step.Goals as goal
-
--- every named router is declared
-pub activate-requires : goal.activate-requires
-activate-requires g c v m = omega (arith, c.least_from.ensures.below c.in_default.is v m, c.count.ensures.value)
