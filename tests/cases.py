@@ -7,7 +7,7 @@
 What a table comes to is written here by hand, from docs/FORMAT.md and docs/REFUSALS.md: a refusal
 by its number and place, or the counts of what an accepted table declares and the last of each kind.
 What each rule keeps of a set is written here by hand too, from docs/RULES.md, and where each router
-sends its traffic and what calls on a network answer and alter from docs/PROTOCOL.md.
+sends its packets and what calls on a network answer and alter from docs/PROTOCOL.md.
 """
 import itertools
 import struct
@@ -299,7 +299,7 @@ keeps("ties at the smallest values", [path(0, 0, 0, 1, 0), path(0, 0, 0, 1, 0), 
 keeps("the largest and the smallest preference", [path(0, local_pref=0), path(0, local_pref=TOP)], [0, 1], [1], [1])
 keeps("the largest and the smallest neighbour", [path(0, 0, med=TOP), path(0, TOP, med=TOP)], [0, 1], [0, 1], [0, 1])
 
-# where the routers of the worked table send their traffic
+# which paths the routers of the worked table take
 WORKED = [*HEADS, *LINKS, *EXITS]
 KEPT = [(1, 5, [0, 2, 3], 1), (2, 3, [1], 2), (1, 4, [2, 3], 1), (1, 0, [3], 1)]
 ways("ways of the paths that are kept of all", WORKED, [1, 2], *KEPT)

@@ -10,12 +10,13 @@ use Rattle.layout.specs.Table.{Declared}
 use Rattle.selection.specs.Laws.{Keeping}
 use Rattle.sets.specs.Members.{member}
 use Rattle.protocol.specs.Alters.{Becomes}
-use Rattle.protocol.specs.Moves.{Move, begun, after_all}
+use Rattle.protocol.specs.Moves.{Move, begun, after_all, one_by_one, all_of}
 use Rattle.protocol.specs.Moves.Move.{Loaded, Injected, Withdrawn, Restarted, Activated}
 use Rattle.protocol.specs.Network.{State}
 use Rattle.protocol.specs.Runs.{Comes, AllCome, reached}
 use Rattle.protocol.specs.Settled.{stretch, named, Round, Rounds}
 use Rattle.protocol.specs.Settled.Rounds.{begins, then}
+use Rattle.protocol.proofs.Resting.{one_by_one_round, all_of_rounds}
 use Rattle.protocol.proofs.Running.{come_back}
 use Rattle.calls.specs.Follows.{OfRunning, OfSettled, Sees, Parts, StopsBehind, FollowsOfCalls, FollowsOfMoves}
 use Rattle.calls.specs.History.{Accepts, Loads, Ends, Stands, LastLoaded}
@@ -174,6 +175,7 @@ module _ {kept : Keeping} {bytes : List ℕ} {turns : List Turn} (plays : Plays 
   unfolding after_all
   follows_of_moves =
       record {
+        may_come = λ before later m whole. comes_at kept before m later begun (subst (AllCome kept begun) whole plays.comes);
         injected_anew = λ before later p whole.
             let came = comes_at kept before (Injected p) later begun (subst (AllCome kept begun) whole plays.comes) in
             (came.0, both_ways _ came.1);
@@ -189,7 +191,10 @@ module _ {kept : Keeping} {bytes : List ℕ} {turns : List Turn} (plays : Plays 
             of_whole (λ (r : Run). r.moves) p.whole ∙ (on p).moves ∙ ap (λ (ms : List Move). ms ++ later) is ∙ append_assoc before (m ∷ []) later in
             subst (λ (x : State). Sees (reached kept before) x m) (sym (plays.reaches front back p.whole ∙ ap (reached kept) is))
             (sees kept _ _ m (plays.becomes before m later whole).becomes);
+        six_rounds = λ before later whole. plays.rests.settles before (all_of (length (reached kept before).table.routers) 6) later whole (all_of_rounds (length (reached kept before).table.routers) 6);
         six_settle = λ before later w whole all. plays.rests.settles before (replicate 6 w) later whole (all_rounds _ w 6 all);
+        quiet_round = λ before later whole same.
+            plays.rests.quiet before (one_by_one (length (reached kept before).table.routers)) later whole (one_by_one_round (length (reached kept before).table.routers)) same;
         quiet_step = λ before later w whole all same.
             plays.rests.quiet before (w ∷ []) later whole (all_named _ w [] all)
             (λ front back e. parted (reached kept before).advertised before w front back e refl same);

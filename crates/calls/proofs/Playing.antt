@@ -79,11 +79,11 @@ module _ {kept : Keeping} (laws : Laws kept) (bytes : List ℕ) where
 
     picked_none_next :
         (back : List Turn) (t : Turn) (v : ℕ) → AllMade kept bytes front → t.call ≡ Ask (Best v) → v < length (network_of kept bytes front).table.routers →
-        (world_of kept bytes front).settled ≡ true → Told (best_answer None) (turn_of kept bytes (front ++ (t ∷ back)) front t) ↔ Empty (network_of kept bytes front).injected
-    picked_none_next back t v made asks below flag =
+        Settled kept (network_of kept bytes front) → Told (best_answer None) (turn_of kept bytes (front ++ (t ∷ back)) front t) ↔ Empty (network_of kept bytes front).injected
+    picked_none_next back t v made asks below settled =
         let w = world_of kept bytes front in
         let offers : offered w.settled t.call ≡ true = ap (offered w.settled) asks in
-        let none = best_none laws w.network network_sane (network_settled flag) v below kept in
+        let none = best_none laws w.network network_sane settled v below kept in
         let said : answer_to kept w t.call ≡ answer_to kept w (Ask (Best v)) = ap (answer_to kept w) asks in
         subst (λ (u : Turn). Told (best_answer None) u ↔ Empty w.network.injected) (sym (turn_at kept bytes front t made offers back t))
         (λ h. none.0 (sym said ∙ told_is laws w t (answer_to kept w t.call) (best_answer None) refl h), λ empty. (_, refl, said ∙ none.1 empty))
@@ -154,9 +154,9 @@ module _ {kept : Keeping} (laws : Laws kept) (bytes : List ℕ) where
           picked = λ front back t v whole made asks below.
               subst (λ (ts : List Turn). Picked (network_of kept bytes front) v (get_or (run_of kept bytes ts).turns (length front) t)) (sym whole)
               (picked_next front (come_so_far front (t ∷ back) whole) back t v made asks below);
-          picked_none = λ front back t v whole made asks below flag.
+          picked_none = λ front back t v whole made asks below settled.
               subst (λ (ts : List Turn). Told (best_answer None) (turn_of kept bytes ts front t) ↔ Empty (network_of kept bytes front).injected) (sym whole)
-              (picked_none_next front (come_so_far front (t ∷ back) whole) back t v made asks below flag);
+              (picked_none_next front (come_so_far front (t ∷ back) whole) back t v made asks below settled);
           traced = λ front back t v q part whole made asks taken flag in_it.
               subst (λ (ts : List Turn). Traced (network_of kept bytes front) v part (world_of kept bytes front).bytes (world_of kept bytes (front ++ (t ∷ []))).bytes (turn_of kept bytes ts front t)) (sym whole)
               (traced_next front (come_so_far front (t ∷ back) whole) back t v q part made flag asks taken in_it);

@@ -18,7 +18,7 @@ use Rattle.protocol.specs.Packets.{best_of}
 use Rattle.protocol.specs.Settled.{Round, Rounds}
 use Rattle.protocol.specs.Settled.Rounds.{begins, then}
 use Rattle.calls.specs.Calls.{Coming, coming, answered}
-use Rattle.calls.specs.Follows.{Looks, Acts, WritesNothing, Place, turn_then, world_then, network_then, Midst, FollowsOfTurns, FollowsOfRest, Follows}
+use Rattle.calls.specs.Follows.{LeavesNetwork, AnswersDone, WritesNothing, Place, turn_then, world_then, network_then, Midst, FollowsOfTurns, FollowsOfRest, Follows}
 use Rattle.calls.specs.History.{Told, Accepts}
 use Rattle.calls.specs.Promise.{world_of, network_of, behind, Refuses, NotRefused, Does, Shown, Rounded, Plays}
 use Rattle.calls.specs.Rounds.{step_by, steps_by, steps_in}
@@ -64,14 +64,14 @@ coming_done : (c : Coming) → ((fault : CallFault) → answered (λ m. Done) c 
 coming_done (Ok m) none = refl
 coming_done (Err fault) none = absurd (none fault refl)
 
-acts_done : (kept : Keeping) (w : World) (call : Call) → Acts call → ((fault : CallFault) → answer_to kept w call ≡ Refused fault → ⊥) → answer_to kept w call ≡ Done
+acts_done : (kept : Keeping) (w : World) (call : Call) → AnswersDone call → ((fault : CallFault) → answer_to kept w call ≡ Refused fault → ⊥) → answer_to kept w call ≡ Done
 acts_done kept w (Act a) h none = coming_done (coming w.network a) none
 acts_done kept w Settle h none = refl
 acts_done kept w Reopen h none = refl
 acts_done kept w (Ask q) h none = absurd h
 acts_done kept w (Report r part) h none = absurd h
 
-leaves_it : (kept : Keeping) (s x : State) (call : Call) → Looks call → Does kept s call x → x ≡ s
+leaves_it : (kept : Keeping) (s x : State) (call : Call) → LeavesNetwork call → Does kept s call x → x ≡ s
 leaves_it kept s x (Act a) h does = absurd h
 leaves_it kept s x Settle h does = absurd h
 leaves_it kept s x Reopen h does = does

@@ -1,5 +1,5 @@
 -- What follows for an operator from the promise of a run. Each is drawn from `Plays` alone, so that
--- no field of it may say less.
+-- no field of it can be dropped or emptied unnoticed.
 use Rattle.std.specs.Prelude.{◌≡◌, ℕ, ◌<◌, ◌≤◌, ◌↔◌, true, false, List, [], ◌∷◌, ◌++◌, All, length, drop, replicate, Some, None, Ok, IsTrue, slice_index_or}
 use Rattle.std.specs.Borrow.{Bor}
 use Rattle.costs.specs.Cost.{plain}
@@ -15,12 +15,12 @@ use Rattle.packets.specs.WaysPlain.{Leaves}
 use Rattle.selection.specs.Laws.{Keeping, Offered}
 use Rattle.sets.specs.Members.{member, Empty}
 use Rattle.protocol.specs.Alters.{HasInjected, Knows, Becomes}
-use Rattle.protocol.specs.Moves.{Move, begun}
+use Rattle.protocol.specs.Moves.{Move, begun, one_by_one, all_of}
 use Rattle.protocol.specs.Moves.Move.{Loaded, Injected, Withdrawn, Restarted, Activated}
 use Rattle.protocol.specs.Network.{State, set_of}
 use Rattle.protocol.specs.Packets.{best_of, way_of}
 use Rattle.protocol.specs.Plain.{Learns}
-use Rattle.protocol.specs.Runs.{reached}
+use Rattle.protocol.specs.Runs.{Comes, reached}
 use Rattle.protocol.specs.Settled.{Settled, stretch}
 use Rattle.calls.specs.History.{Told, Accepts, Loads, Changes, IsMove}
 use Rattle.calls.specs.Calls.{reply, report_answer, report_bytes}
@@ -39,7 +39,7 @@ use Rattle.calls.specs.declared.report.Report.TheVariants.{Trace}
 use Rattle.calls.specs.declared.turn.Outcome.{Outcome}
 use Rattle.calls.specs.declared.turn.Turn.{Turn}
 
--- what is seen first of what happened to network s, which is network x then
+-- what shows in network x, which network s became by this move
 abbrev pub Sees : State → State → Move → Type 0
 Sees s x (Loaded t) = (x.table ≡ t) × Empty x.injected
 Sees s x (Injected p) = HasInjected x p × Knows x (exit_of s.table p) p
@@ -71,21 +71,21 @@ OfSettled Reopen = Unit
 OfSettled (Ask q) = ⊥
 OfSettled (Report r part) = Unit
 
--- a call that only looks: a question, a report or a reopening
-abbrev pub Looks : Call → Type 0
-Looks (Act a) = ⊥
-Looks Settle = ⊥
-Looks Reopen = Unit
-Looks (Ask q) = Unit
-Looks (Report r part) = Unit
+-- a call that leaves the network as it is: a question, a report or a reopening
+abbrev pub LeavesNetwork : Call → Type 0
+LeavesNetwork (Act a) = ⊥
+LeavesNetwork Settle = ⊥
+LeavesNetwork Reopen = Unit
+LeavesNetwork (Ask q) = Unit
+LeavesNetwork (Report r part) = Unit
 
--- a call that asks for no answer: an action, a settle or a reopening
-abbrev pub Acts : Call → Type 0
-Acts (Act a) = Unit
-Acts Settle = Unit
-Acts Reopen = Unit
-Acts (Ask q) = ⊥
-Acts (Report r part) = ⊥
+-- a call that answers done unless it is refused: an action, a settle or a reopening
+abbrev pub AnswersDone : Call → Type 0
+AnswersDone (Act a) = Unit
+AnswersDone Settle = Unit
+AnswersDone Reopen = Unit
+AnswersDone (Ask q) = ⊥
+AnswersDone (Report r part) = ⊥
 
 -- a call that writes nothing: any but a report
 abbrev pub WritesNothing : Call → Type 0
@@ -197,8 +197,11 @@ module _ (kept : Keeping) (bytes : List ℕ) (turns : List Turn) where
 
   -- of what happened to the network
   pub record FollowsOfMoves : Type 0 where
-    -- every path that was injected was declared and was not injected yet, and every step named
-    -- declared routers only
+    -- only what may come came: every path that was injected was declared and was not injected yet,
+    -- every step named declared routers only, and so on
+    pub may_come :
+        (before later : List Move) (m : Move) → Happens before (m ∷ []) later →
+        Comes (so_far before) m
     pub injected_anew :
         (before later : List Move) (p : ℕ) → Happens before (Injected p ∷ []) later →
         (p < length (so_far before).table.paths)
@@ -222,12 +225,24 @@ module _ (kept : Keeping) (bytes : List ℕ) (turns : List Turn) where
         (front back : List Turn) (before : List Move) (m : Move) → Parts front back →
         happened front ≡ before ++ (m ∷ []) →
         Sees (so_far before) (network_of kept bytes front) m
-    -- six steps of all routers settle a network
+    -- six rounds of one router a step settle a network, and so do six steps of all routers
+    pub six_rounds :
+        (before later : List Move) →
+        let n = length (so_far before).table.routers in
+        Happens before (stretch (all_of n 6)) later →
+        Settled kept (reached kept (before ++ stretch (all_of n 6)))
     pub six_settle :
         (before later : List Move) (w : ℕ) → Happens before (stretch (replicate 6 w)) later →
         NamesAll (so_far before) w →
         Settled kept (reached kept (before ++ stretch (replicate 6 w)))
-    -- one that alters no advertised set shows that it was settled
+    -- a round that alters no advertised set shows that it was settled, and so does a step of all
+    pub quiet_round :
+        (before later : List Move) →
+        let n = length (so_far before).table.routers in
+        Happens before (stretch (one_by_one n)) later →
+        ((front back : List ℕ) → one_by_one n ≡ front ++ back →
+        (reached kept (before ++ stretch front)).advertised ≡ (so_far before).advertised) →
+        Settled kept (so_far before)
     pub quiet_step :
         (before later : List Move) (w : ℕ) → Happens before (Activated w ∷ []) later →
         NamesAll (so_far before) w →
@@ -281,7 +296,7 @@ module _ (kept : Keeping) (bytes : List ℕ) (turns : List Turn) where
         (world_then front t).bytes ≡ (world_of kept bytes front).bytes
     -- every other call is done, or refused with the fault that it is to be refused with
     pub done :
-        (front : List Turn) (t : Turn) → Place front t → Acts t.call →
+        (front : List Turn) (t : Turn) → Place front t → AnswersDone t.call →
         ((fault : CallFault) → Refuses (world_of kept bytes front) t.call fault → ⊥) →
         Told Done (turn_then front t)
     pub refused :
@@ -302,7 +317,7 @@ module _ (kept : Keeping) (bytes : List ℕ) (turns : List Turn) where
         (network_then front t ≡ network_of kept bytes front)
         × ((world_then front t).bytes ≡ (world_of kept bytes front).bytes)
     pub looked :
-        (front : List Turn) (t : Turn) → Place front t → Looks t.call →
+        (front : List Turn) (t : Turn) → Place front t → LeavesNetwork t.call →
         network_then front t ≡ network_of kept bytes front
     -- an action that is told as accepted makes of the network what it is for
     pub acted :
@@ -371,12 +386,12 @@ module _ (kept : Keeping) (bytes : List ℕ) (turns : List Turn) where
     pub best_none :
         (front : List Turn) (t : Turn) (v : ℕ) → Place front t → t.call ≡ Ask (Best v) →
         v < length (network_of kept bytes front).table.routers →
-        (world_of kept bytes front).settled ≡ true → Empty (network_of kept bytes front).injected →
+        Settled kept (network_of kept bytes front) → Empty (network_of kept bytes front).injected →
         Told (best_answer None) (turn_then front t)
     pub best_some :
         (front : List Turn) (t : Turn) (v q : ℕ) → Place front t → t.call ≡ Ask (Best v) →
         v < length (network_of kept bytes front).table.routers →
-        (world_of kept bytes front).settled ≡ true → HasInjected (network_of kept bytes front) q →
+        Settled kept (network_of kept bytes front) → HasInjected (network_of kept bytes front) q →
         Told (best_answer None) (turn_then front t) → ⊥
     -- a trace writes as many routers as it tells, no router twice, and first the one that it was
     -- asked about; behind them the part is as it was, and so are the bytes around it

@@ -1,4 +1,4 @@
--- What the calls that were made say of a network, in the terms of an operator: each call by its turn as it stands afterwards.
+-- What turns tell of a network once their calls were made, in the terms of an operator.
 use Rattle.std.specs.Prelude.{◌≡◌, ℕ, ◌⊎◌, List, ◌∷◌, All, Ok, Some}
 use Rattle.std.specs.Borrow.{Bor}
 use Rattle.layout.specs.Reading.{table_in}
@@ -41,7 +41,7 @@ pub data Stands (q : ℕ) : List Turn → Type 0 where
   last : {t : Turn} {behind : List Turn} → Accepts (Inject q) t → All (λ u. Ends q u → ⊥) behind → Stands q (t ∷ behind)
   later : {t : Turn} {behind : List Turn} → Stands q behind → Stands q (t ∷ behind)
 
--- some turn tells that the table with these declarations was loaded, and none behind it that another was
+-- some turn tells that the table with these declarations was loaded, and none behind it that one was
 pub data LastLoaded (d : Declared) : List Turn → Type 0 where
   last : {t : Turn} {behind : List Turn} (bytes : Bor (List ℕ)) → Accepts (Load bytes) t → table_in bytes.now ≡ Ok d → All (λ u. Loads u → ⊥) behind → LastLoaded d (t ∷ behind)
   later : {t : Turn} {behind : List Turn} → LastLoaded d behind → LastLoaded d (t ∷ behind)

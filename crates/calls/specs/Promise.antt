@@ -133,7 +133,7 @@ pub record Rounded (kept : Keeping) (s x : State) (turns : List Turn) : Type 0 w
 pub record Plays (kept : Keeping) (bytes : List ℕ) (turns : List Turn) : Type 0 where
   -- a call goes on from where the calls before it left the run
   pub goes_on : (front back : List Turn) → turns ≡ front ++ back → AllMade kept bytes front → GoesOn kept bytes front back
-  -- what happened to the network is what may happen to it, each time made of it what an operator would say, and all in all what it is
+  -- only what may happen to the network did; each thing made of it what `Becomes` says; and it is what they made of it, one after another
   pub comes : AllCome kept begun (run_of kept bytes turns).moves
   pub becomes : AllBecome kept (run_of kept bytes turns).moves
   pub reaches : (front back : List Turn) → turns ≡ front ++ back → network_of kept bytes front ≡ reached kept (run_of kept bytes front).moves
@@ -141,7 +141,7 @@ pub record Plays (kept : Keeping) (bytes : List ℕ) (turns : List Turn) : Type 
   pub rests : Rests kept (run_of kept bytes turns).moves
   -- after settling, and until it is reopened, the network is settled
   pub settled : (front back : List Turn) → turns ≡ front ++ back → (world_of kept bytes front).settled ≡ true → Settled kept (network_of kept bytes front)
-  -- what a call tells of it, whether the network is settled, is so
+  -- the test by which a question and a turn tell whether it is settled tells so
   pub told : (front back : List Turn) → turns ≡ front ++ back → Decides (at_rest kept (network_of kept bytes front)) (Settled kept (network_of kept bytes front))
   -- its table is that of the last accepted load; there is none before the first
   pub declares :
@@ -170,7 +170,7 @@ pub record Plays (kept : Keeping) (bytes : List ℕ) (turns : List Turn) : Type 
       t.call ≡ Ask (Best v) → v < length (network_of kept bytes front).table.routers → Picked (network_of kept bytes front) v (turn_of kept bytes turns front t)
   pub picked_none :
       (front back : List Turn) (t : Turn) (v : ℕ) → turns ≡ front ++ (t ∷ back) → AllMade kept bytes front →
-      t.call ≡ Ask (Best v) → v < length (network_of kept bytes front).table.routers → (world_of kept bytes front).settled ≡ true →
+      t.call ≡ Ask (Best v) → v < length (network_of kept bytes front).table.routers → Settled kept (network_of kept bytes front) →
       Told (best_answer None) (turn_of kept bytes turns front t) ↔ Empty (network_of kept bytes front).injected
   -- a trace that is not refused tells how the packet leaves, where some path is injected; it tells of no way exactly where none is
   pub traced :

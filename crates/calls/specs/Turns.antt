@@ -51,7 +51,7 @@ bytes_after w Reopen = w.bytes
 bytes_after w (Ask q) = w.bytes
 bytes_after w (Report r part) = with_part w.bytes part (report_bytes w.network r (part_of w.bytes part))
 
--- whether a call is offered, where the network was settled and not reopened, or else
+-- whether a call is offered: by a settled network, or by a running one where the first is false
 abbrev pub offered : Bool → Call → Bool
 offered settled (Act a) = not settled
 offered settled Settle = not settled
@@ -59,7 +59,7 @@ offered settled Reopen = settled
 offered settled (Ask q) = true
 offered settled (Report r part) = settled
 
--- and whether it is so afterwards
+-- whether the network is settled and not reopened after the call
 abbrev pub settled_after : Bool → Call → Bool
 settled_after settled (Act a) = settled
 settled_after settled Settle = true

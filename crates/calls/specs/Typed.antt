@@ -1,4 +1,4 @@
--- What the types of a call's numbers give.
+-- What holds of every call: its bytes are read as is promised of bytes, and a set of routers is a word of 32 bits.
 use Rattle.std.specs.Prelude.{⊤, ◌^◌, ◌<◌}
 use Rattle.layout.specs.Promise.{Reads}
 use Rattle.layout.specs.Reading.{table_in}
@@ -7,7 +7,7 @@ use Rattle.calls.specs.declared.action.Action.TheVariants.{Load, Inject, Withdra
 use Rattle.calls.specs.declared.call.Call.{Call}
 use Rattle.calls.specs.declared.call.Call.TheVariants.{Act, Settle, Reopen, Ask, Report}
 
--- bytes are read as is promised of bytes, and a set of routers is a word of 32 bits
+-- of an action
 abbrev pub TypedAction : Action → Type 0
 TypedAction (Load bytes) = Reads bytes.now (table_in bytes.now)
 TypedAction (Inject p) = ⊤

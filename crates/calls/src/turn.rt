@@ -16,7 +16,7 @@ pub struct Outcome {
 #[derive(Clone, Copy, Debug)]
 pub struct Turn<'a> {
     pub call: Call<'a>,
-    /// None where the call was not made.
+    /// What came of it. Where the call is not made this stays as it was: none in a new turn.
     pub outcome: Option<Outcome>,
 }
 

@@ -1,5 +1,5 @@
 // Plays tables written in hexadecimal, a line each, and prints what each comes to; of a line with a set
-// of paths behind the table, what each rule keeps of the set, or where each router sends its traffic; of a
+// of paths behind the table, what each rule keeps of the set, or which path each router takes; of a
 // line with calls behind it, what each call answers on a network.
 #![tactic(auto)]
 
@@ -118,7 +118,7 @@ enum Asked<'a> {
     Records,
     // What each rule keeps of a set.
     Rules(PathSet),
-    // Where each router sends its traffic, of a set.
+    // Which path each router takes, of a set.
     Ways(PathSet),
     // What each of these calls answers on a network.
     Calls(&'a str),

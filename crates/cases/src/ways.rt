@@ -1,4 +1,4 @@
-// Plays where each router sends its traffic, and the way of a packet from there.
+// Plays which path each router takes, and the way of a packet from there.
 use distances::Distances;
 use faults::{CallFault, Fault};
 use forwarding::{best, metric, next_hop, trace};

@@ -18,13 +18,13 @@ use Rattle.sets.specs.Members.{member, Empty}
 abbrev pub IsTable : List ℕ → Declared → Type 0
 IsTable bs t = WellFormed t × (bs ≡ encoded t)
 
--- a router sends its traffic by its best path of the set s, and nowhere exactly if nothing is injected
+-- a router takes its best path of the set s, and none exactly if nothing is injected
 pub record Sends (t : Declared) (injected s v byte : ℕ) : Type 0 where
   pub nowhere : Empty injected → byte ≡ 255
   pub nothing : byte ≡ 255 → Empty injected
   pub best : (q : ℕ) → member injected q ≡ true → Best plain t s v byte
 
--- the buffer has a byte for each router, where it sends its traffic, and is as it was behind them
+-- the buffer has a byte for each router, the path that it takes, and is as it was behind them
 pub record Sent (t : Declared) (injected : ℕ) (before after : List ℕ) : Type 0 where
   -- what the five-stage rule keeps of the injected paths
   pub kept : ℕ
@@ -44,8 +44,8 @@ Refused bs injected room (AlreadyInjected p) = ⊥
 Refused bs injected room (NotInjected p) = ⊥
 Refused bs injected room (ShortBuffer needed) = (t : Declared) × IsTable bs t × AllDeclared t.paths injected × (room < 32) × (needed ≡ 32)
 
--- a call is accepted exactly for a table, paths that it declares and a buffer of 32 bytes, and then the buffer says where every router
--- sends its traffic; a refused call leaves the buffer as it was; and no place passes the length of the longest table
+-- a call is accepted exactly for a table, paths that it declares and a buffer of 32 bytes, and then the buffer says which path every
+-- router takes; a refused call leaves the buffer as it was; and no place passes the length of the longest table
 pub record Directs (bs : List ℕ) (injected : ℕ) (before after : List ℕ) (r : Result ⊤ CallFault) : Type 0 where
   pub accepted : r ≡ Ok tt → (t : Declared) × IsTable bs t × AllDeclared t.paths injected × (32 ≤ length before) × Sent t injected before after
   pub accepts : (t : Declared) → IsTable bs t → AllDeclared t.paths injected → 32 ≤ length before → r ≡ Ok tt

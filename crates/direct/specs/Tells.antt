@@ -18,7 +18,7 @@ use Rattle.direct.specs.Promise.{IsTable}
 abbrev pub IsOnlyTable : List ℕ → Declared → Type 0
 IsOnlyTable bs t = IsTable bs t × ((u : Declared) → IsTable bs u → u ≡ t)
 
--- router v is sent to path p
+-- router v takes path p
 pub record Picks (t : Declared) (injected v p : ℕ) : Type 0 where
   -- p is declared and injected
   pub offered : Offered t.paths injected p
@@ -32,7 +32,7 @@ pub record Picks (t : Declared) (injected v p : ℕ) : Type 0 where
   pub others :
       exit_of t p ≢ v → (q : ℕ) → FiveStageKeeps t.paths injected q → Beats plain t v q p → ⊥
 
--- the buffer tells where every router of table t sends its traffic
+-- the buffer tells which path every router of table t takes
 pub record Told (t : Declared) (injected : ℕ) (before after : List ℕ) : Type 0 where
   -- a router's byte is 255 exactly where nothing is injected
   pub nowhere : (v : ℕ) → v < length t.routers → (slice_index_or after v 0 ≡ 255) ↔ Empty injected

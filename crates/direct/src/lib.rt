@@ -1,4 +1,4 @@
-// The direct answer: where every router of a table sends its traffic, without a network that is run.
+// The direct answer: which path every router of a table takes, without a network that is run.
 #![tactic(auto)]
 
 mod sending;

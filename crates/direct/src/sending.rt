@@ -31,7 +31,7 @@ fn write(distances: &Distances, set: PathSet, routers: &mut [u8]) -> Result<(), 
     Ok(())
 }
 
-// Where every router of a table sends its traffic, if these paths are injected: its best path of what the five-stage rule keeps
+// Which path every router of a table takes, if these paths are injected: its best path of what the five-stage rule keeps
 // of them goes into the buffer, one byte a router, and 255 where there is none. Bytes past them stay as they were.
 pub fn direct(bytes: &[u8], injected: u64, buffer: &mut [u8]) -> Result<(), CallFault>
     ensures value { result ≡ direct_answer bytes.now injected (length buffer.old) }

@@ -1,4 +1,4 @@
-// Where a router sends its traffic: its best path, the next hop, and the way of a packet.
+// Which path a router takes, to which next hop, and the way of a packet.
 #![tactic(auto)]
 
 mod best_path;

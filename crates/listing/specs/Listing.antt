@@ -1,4 +1,4 @@
--- The list of a network in text: where every router sends its traffic. Assumes nothing.
+-- The list of a network in text: which path every router takes.
 use Rattle.std.specs.Prelude.{ℕ, zero, suc, cond, List, [], ◌++◌, length, drop, Some, None, Ok, Err, Option, Result, bit_or, codes, decimal, nat_le}
 use Rattle.costs.specs.Cost.{plain}
 use Rattle.faults.specs.declared.call.CallFault.{CallFault}

@@ -18,7 +18,7 @@ module _ (t : Declared) (advertised : List ℕ) where
   abbrev pub NoStray : Type 0
   NoStray = (v : ℕ) → v < length t.routers → AllDeclared t.paths (set_of advertised v)
 
-  -- a list is written exactly if so, and if the buffer has so many bytes
+  -- a list is written exactly if every router advertises declared paths alone and the buffer has 512 bytes
   abbrev pub ListAsked : ℕ → Type 0
   ListAsked room = NoStray × (512 ≤ room)
 

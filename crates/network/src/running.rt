@@ -9,8 +9,8 @@ mod steps;
 use crate::held::Held;
 use rules::Rule;
 
-/// A running network, under one rule from its making to its end. What every network keeps is a ghost field, so that whoever
-/// holds a network has it; it is shown anew wherever what is held changes, and so what is held changes at once.
+/// A running network, under one rule from its making to its end. That it is consistent is a ghost field, so whoever holds a
+/// network has the fact. It is proved anew at each assignment to `held`, so `held` changes in one.
 #[derive(Drop)]
 pub struct Running<R: Rule> {
     rule: R,

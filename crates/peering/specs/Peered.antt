@@ -30,7 +30,7 @@ module _ (t : Declared) where
   abbrev pub passed_by : ℕ → ℕ → ℕ → Bool
   passed_by w v p = nat_lt p (length t.paths) && passes t w v p
 
--- the sets of each router: its exit paths, those of its clients, and its peers; past the declared routers, nothing
+-- the sets of each router: its exit paths, those of its cluster's clients, and its peers; past the declared routers, nothing
 pub record Peered (t : Declared) (exits clients others : List ℕ) : Type 0 where
   pub few : length t.routers ≤ 32
   pub own : (v p : ℕ) → v < length t.routers → member (set_of exits v) p ≡ exits_by t v p

@@ -39,6 +39,7 @@ module _ (bs : List ℕ) (injected : ℕ) (before after : List ℕ) (answer : �
     by_fault telling = record {
       in_order = λ t is all room. let said = tells.in_order t is all room in cc;
       accepted = λ zero. absurd (omega (arith, number, telling.some, zero));
+      done = λ zero. absurd (omega (arith, number, telling.some, zero));
       leaves = λ refused. tells.leaves;
       number = subst (λ n. (n ≤ 11) ⊎ (n ≡ 16)) (sym number) tells.numbers;
       place = near;
@@ -65,6 +66,7 @@ module _ (bs : List ℕ) (injected : ℕ) (before after : List ℕ) (answer : �
   by_meaning (Ok done) number place near tells = record {
     in_order = λ t is all room. omega (arith, number, place);
     accepted = λ zero. tells.accepted refl;
+    done = λ zero. omega (arith, number, place);
     leaves = λ refused. absurd (refused number);
     number = inl (omega (arith, number));
     place = near;

@@ -17,6 +17,8 @@ pub record HostTells (bs : List ℕ) (injected : ℕ) (before after : List ℕ) 
       answer ≡ 0 →
       (t : Declared) × IsOnlyTable bs t × AllDeclared t.paths injected × (32 ≤ length before)
       × Told t injected before after
+  -- the number alone tells whether the call is accepted
+  pub done : answer % 256 ≡ 0 → answer ≡ 0
   -- where the number is not 0, every byte of the buffer is as it was
   pub leaves : answer % 256 ≢ 0 → after ≡ before
   -- the answer is a number up to 11, or 16, and 256 times a place within the longest table

@@ -1,5 +1,5 @@
-// Reads a table from standard input, injects every path of it and settles the network, and prints where each router sends its
-// traffic then, or why the table is refused.
+// Reads a table from standard input, injects every path of it and settles the network, and prints which path each router
+// takes then, or why the table is refused.
 #![tactic(auto)]
 
 ghost use Rattle.std.specs.Prelude.{◌≡◌, ◌≤◌, IfOk, MatchResult, Ok, Err};
@@ -44,7 +44,7 @@ fn settled_with_all<R: Rule + Drop>(rule: R, bytes: &[u8]) -> Result<Settled<R>,
     Ok(network.settle())
 }
 
-// Writes where each router sends its traffic when every path is injected, under the five-stage rule. Answers how many bytes
+// Writes which path each router takes when every path is injected, under the five-stage rule. Answers how many bytes
 // that takes, or why the table is refused.
 fn report(bytes: &[u8], buffer: &mut [u8; MOST_BYTES]) -> Result<usize, CallFault>
     ensures value { result ≡ report_length (table_in bytes.now) }

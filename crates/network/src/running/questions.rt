@@ -17,7 +17,7 @@ use forwarding::{best, metric};
 use rules::{Rule, advertised};
 use sets::PathSet;
 
-// What was asked about the best path of a router.
+// The answer about a router's best path.
 fn told_best(best: Result<Option<u8>, CallFault>) -> Answer
     ensures { result ≡ answered best_answer best }
 {
@@ -27,7 +27,7 @@ fn told_best(best: Result<Option<u8>, CallFault>) -> Answer
     }
 }
 
-// What was asked about the metric of one.
+// The answer about its metric.
 fn told_metric(metric: Result<Option<u32>, CallFault>) -> Answer
     ensures { result ≡ answered metric_answer metric }
 {
@@ -37,7 +37,7 @@ fn told_metric(metric: Result<Option<u32>, CallFault>) -> Answer
     }
 }
 
-// What was asked about the paths of one.
+// The answer about a set of paths.
 fn told_paths(paths: Result<PathSet, CallFault>) -> Answer
     ensures { result ≡ answered Paths paths }
 {
@@ -48,7 +48,7 @@ fn told_paths(paths: Result<PathSet, CallFault>) -> Answer
 }
 
 impl<R: Rule> Running<R> {
-    // The place of a router among all.
+    // The index of a router, where it is declared.
     fn index_of(&self, router: u32) -> Result<usize, CallFault>
         ensures value { result ≡ of_router (state_of self.now).table router (Ok router) }
         ensures low { IfOk result (λ v. v < 32) }
