@@ -1,20 +1,17 @@
 -- What one call of a run leaves.
-use Rattle.std.proofs.Common.{◌≡◌, ℕ, Bool, true, false, cond, List, [], Some, Ok, Err, Result, sym, refl, ap, ◌∙◌, subst}
+use Rattle.std.proofs.Common.{◌≡◌, ℕ, Bool, List, [], Some, Ok, Err, Result, sym, ap, ◌∙◌}
 use Rattle.std.specs.Prelude.{⊤}
 use Rattle.faults.specs.declared.call.CallFault.{CallFault}
 use Rattle.selection.specs.Laws.{Keeping}
 use Rattle.protocol.specs.Network.{State}
 use Rattle.protocol.specs.Moves.{after_all}
-use Rattle.calls.specs.Calls.{Coming, coming, done, answered, reply, report_answer, report_bytes, at_rest}
+use Rattle.calls.specs.Calls.{Coming, coming, done, answered, at_rest}
 use Rattle.calls.specs.Turns.{World, of_moves, moves_of, answer_to, bytes_after, settled_after, next, turned}
 use Rattle.calls.specs.declared.action.Action.{Action}
 use Rattle.calls.specs.declared.answer.Answer.{Answer}
 use Rattle.calls.specs.declared.answer.Answer.TheVariants.{Done}
 use Rattle.calls.specs.declared.call.Call.{Call}
-use Rattle.calls.specs.declared.call.Call.TheVariants.{Act, Settle, Reopen, Ask, Report}
-use Rattle.calls.specs.declared.question.Question.{Question}
-use Rattle.calls.specs.declared.report.Part.{Part}
-use Rattle.calls.specs.declared.report.Report.{Report as Reported}
+use Rattle.calls.specs.declared.call.Call.TheVariants.{Act}
 use Rattle.calls.specs.declared.turn.Outcome.{Outcome}
 use Rattle.calls.specs.declared.turn.Turn.{Turn}
 

@@ -1,7 +1,6 @@
-use Rattle.std.proofs.Common.{◌≡◌, ℕ, Bool, false, List, refl, ap, sym, ◌∙◌, subst}
+use Rattle.std.proofs.Common.{◌≡◌, ℕ, false, List, refl, ap, sym, ◌∙◌, subst}
 use Rattle.calls.specs.Turns.{bytes_after, settled_after}
-use Rattle.calls.specs.declared.call.Call.{Call}
-use Rattle.calls.specs.declared.call.Call.TheVariants.{Act, Ask}
+use Rattle.calls.specs.declared.call.Call.TheVariants.{Ask}
 use Rattle.network.specs.Running.{rule_of, state_of}
 use Rattle.network.specs.declared.running.Running.{Running}
 use Rattle.reflectors.specs.Reached.{running_world}

@@ -1,7 +1,6 @@
-use Rattle.std.proofs.Common.{◌≡◌, ℕ, Bool, true, List, refl, ap, sym, ◌∙◌, subst}
+use Rattle.std.proofs.Common.{◌≡◌, true, refl, ap, sym, ◌∙◌}
 use Rattle.calls.specs.Turns.{bytes_after, settled_after}
 use Rattle.calls.specs.declared.answer.Answer.TheVariants.{Done}
-use Rattle.calls.specs.declared.call.Call.{Call}
 use Rattle.calls.specs.declared.call.Call.TheVariants.{Reopen, Ask, Report}
 use Rattle.network.specs.Settled.{rule_of, state_of}
 use Rattle.network.specs.Running.{rule_of as running_rule, state_of as running_state}
