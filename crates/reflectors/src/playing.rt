@@ -1,5 +1,6 @@
 ghost use Rattle.std.specs.Prelude.{◌≡◌, ℕ, List, IsTrue, if◌then◌else◌, length, true, false};
 ghost use Rattle.calls.specs.Calls.{answered, report_answer, report_bytes};
+ghost use Rattle.calls.specs.Follows.{Follows};
 ghost use Rattle.calls.specs.Promise.{run_of, world_of, Plays};
 ghost use Rattle.calls.specs.Turns.{part_of, with_part, offered, next, turned};
 ghost use Rattle.calls.specs.Typed.{Typed};
@@ -128,6 +129,7 @@ pub fn play<R: Rule>(rule: R, turns: &mut [Turn], bytes: &mut [u8]) -> Played<R>
     ensures world { world_in result.network bytes.new ≡ world_of (R.kept rule) bytes.old turns.old }
     ensures rule { rule_in result.network ≡ rule }
     ensures plays { Plays (R.kept rule) bytes.old turns.old }
+    ensures follows { Follows (R.kept rule) bytes.old turns.old }
     ensures six { SixRounds }
 {
     let mut network = Reached::Running(Running::new(rule));

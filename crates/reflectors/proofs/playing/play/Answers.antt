@@ -3,6 +3,7 @@ use Rattle.protocol.specs.Network.{State}
 use Rattle.protocol.proofs.SixRounds.{six_rounds}
 use Rattle.calls.specs.Turns.{offered, next, turned}
 use Rattle.calls.proofs.Coming.{call_comes}
+use Rattle.calls.proofs.Resulting.{follows}
 use Rattle.calls.proofs.Stepping.{SoFar, so_far_begins, one_made, none_made, ran_out}
 use Rattle.reflectors.specs.Reached.{rule_in, was_settled, world_in}
 use Rattle.reflectors.proofs.playing.play.Goals as goal
@@ -55,11 +56,11 @@ returns-then-not-made g c =
     none_made k c.args.bytes.now c.args.turns.now h.so (g.R.Rule.laws c.args.rule) d c.loop-turn-test.true (sym said.made ∙ made)
     (said.turn ∙ ap (λ b. cond b (turned (g.R.Rule.kept (rule_in n)) w t) t) made)
     (said.world ∙ ap (λ b. cond b (next (g.R.Rule.kept (rule_in n)) w t.call) w) made) in
-    record { turns = end.turns_are; played = h.count ∙ end.made; world = end.world; rule = said.rule ∙ h.rule; plays = end.plays; six = six_rounds }
+    record { turns = end.turns_are; played = h.count ∙ end.made; world = end.world; rule = said.rule ∙ h.rule; plays = end.plays; follows = follows end.plays; six = six_rounds }
 
 -- all were made
 pub returns : goal.returns
 returns g c =
     let h = c.loop-turn.invariant in
     let end = ran_out (g.R.Rule.kept c.args.rule) c.args.bytes.now c.args.turns.now h.so (g.R.Rule.laws c.args.rule) c.loop-turn-test.false in
-    record { turns = end.turns_are; played = h.count ∙ end.made; world = end.world; rule = h.rule; plays = end.plays; six = six_rounds }
+    record { turns = end.turns_are; played = h.count ∙ end.made; world = end.world; rule = h.rule; plays = end.plays; follows = follows end.plays; six = six_rounds }
