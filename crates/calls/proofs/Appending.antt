@@ -1,7 +1,7 @@
 -- A run of calls, one call at a time and one part after another.
 use Rattle.std.proofs.Common.{◌≡◌, ℕ, suc, ◌+◌, true, false, List, [], ◌∷◌, ◌++◌, length, sym, refl, ap, ◌∙◌, inl, inr, arith}
 use Rattle.std.proofs.lemmas.Bool.{cases_Bool, cond-true, cond-false}
-use Rattle.std.proofs.lemmas.List.{append_assoc}
+use Rattle.std.proofs.lemmas.List.{append-nil, append_assoc}
 use Rattle.selection.specs.Laws.{Keeping}
 use Rattle.protocol.specs.Moves.{Move, after_all}
 use Rattle.protocol.specs.Runs.{reached}
@@ -150,6 +150,7 @@ stops kept bytes front back t made none =
     let whole = run_no_more kept bytes front t back made none in
     record {
       turns = ap (λ (r : Run). r.turns) whole;
+      moves = ap (λ (r : Run). r.moves) whole ∙ append-nil (run_of kept bytes front).moves;
       made = omega (arith, ap (λ (r : Run). r.made) whole, made);
       world = ap (λ (r : Run). r.world) whole;
     }

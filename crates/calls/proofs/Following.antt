@@ -114,6 +114,7 @@ module _ {kept : Keeping} {bytes : List ℕ} {turns : List Turn} (plays : Plays 
   no_more {front} {back} {t} p none =
       let stops = plays.stops front back t p.whole p.made none in (
         of_whole (λ (x : Run). x.turns) p.whole ∙ stops.turns,
+        of_whole (λ (x : Run). x.moves) p.whole ∙ stops.moves,
         of_whole (λ (x : Run). x.made) p.whole ∙ stops.made,
         of_whole (λ (x : Run). x.world) p.whole ∙ stops.world,
       )

@@ -253,15 +253,20 @@ module _ {kept : Keeping} {bytes : List ℕ} {turns : List Turn} (plays : Plays 
             let not = taken front t shown (λ fault refused. let e = told_one _ _ there told refused in let clash : ⊥ = cc in clash) in
             let traced = plays.traced front p.back t v q part p.whole p.made asks not (flag_is front t v part p asks) has in
             let same = told_one _ (way_answer (Some way)) there traced.told told in
-            let is : record { count = length (v ∷ traced.met); path = traced.path } ≡ way = cc in
-            let count : length (v ∷ traced.met) ≡ way.count = ap (λ (x : Way). x.count) is in
+            let traces = traced.traces in
+            let told_there : traced.way ≡ Some way = cc in
+            let is : record { count = length (v ∷ traces.met); path = traces.path } ≡ way = (let e = traces.told in cc) in
+            let count : length (v ∷ traces.met) ≡ way.count = ap (λ (x : Way). x.count) is in
+            let before = part_of w.bytes part in
+            let bytes_are : (world_then kept bytes turns front t).bytes ≡ with_part w.bytes part ((v ∷ traces.met) ++ drop (length (v ∷ traces.met)) before) =
+            traced.written ∙ ap (with_part w.bytes part) traces.written in
             let fits = not_refused w.network v (length (part_of w.bytes part)) (λ fault refused. not fault (subst (λ (c : Call). Refuses w c fault) (sym asks) refused)) in (
-              traced.met,
+              traces.met,
               count,
-              traced.leaves.once,
-              subst (λ (x : Way). Leaves plain w.network.table (best_of w.network) v traced.met x.path) is traced.leaves,
-              traced.written ∙ ap (λ (n : ℕ). with_part w.bytes part ((v ∷ traced.met) ++ drop n (part_of w.bytes part))) count,
-              ap (λ (b : List ℕ). get_or b part.start d) traced.written ∙ first_byte w.bytes part v d (traced.met ++ drop (length (v ∷ traced.met)) (part_of w.bytes part)) fits.1,
+              traces.leaves.once,
+              subst (λ (x : Way). Leaves plain w.network.table (best_of w.network) v traces.met x.path) is traces.leaves,
+              bytes_are ∙ ap (λ (n : ℕ). with_part w.bytes part ((v ∷ traces.met) ++ drop n before)) count,
+              ap (λ (b : List ℕ). get_or b part.start d) bytes_are ∙ first_byte w.bytes part v d (traces.met ++ drop (length (v ∷ traces.met)) before) fits.1,
             );
         way_none = λ front t v part p asks empty none.
             (plays.traced_none front p.back t v part p.whole p.made asks (taken front t (shown_at front t p) none) (flag_is front t v part p asks)).1 empty;

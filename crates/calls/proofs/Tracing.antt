@@ -1,6 +1,6 @@
 -- A trace of a settled network tells how a packet leaves, and a best path is told in plain terms.
 use Rattle.std.proofs.Common.{◌≡◌, ℕ, zero, suc, ◌<◌, ◌≤◌, true, false, List, ◌∷◌, length, ◌⊎◌, Some, None, Ok, IfOk, Option, Result, sym, refl, ap, ◌∙◌, subst, inl, inr}
-use Rattle.std.proofs.lemmas.Bool.{both_ways, cases_Bool, cases_lt, cond-true, cond-false, lt-ltb, le-leb, and_from, ltb-true, false_from_ne_true}
+use Rattle.std.proofs.lemmas.Bool.{both_ways, cases_Bool, cases_lt, cond-true, cond-false, lt-ltb, le-ltb, lt-leb, le-leb, and_from, ltb-true, false_from_ne_true}
 use Rattle.std.specs.Prelude.{◌↔◌, nat_lt, nat_le, ◌&&◌}
 use Rattle.costs.specs.Cost.{plain}
 use Rattle.costs.proofs.Plain.{plain_laws}
@@ -19,7 +19,7 @@ use Rattle.protocol.specs.Settled.{Settled}
 use Rattle.protocol.proofs.Leaving.{all_leave}
 use Rattle.protocol.proofs.Running.{Sane}
 use Rattle.calls.specs.Calls.{best_at, trace_at, trace_bytes_at, answered, reply, report_answer}
-use Rattle.calls.specs.Promise.{Picked, Traced}
+use Rattle.calls.specs.Promise.{Picked, Traces, Traced}
 use Rattle.calls.specs.Refusals.{RefusesReport}
 use Rattle.calls.specs.Turns.{World, part_of, with_part, bytes_after, answer_to, turned}
 use Rattle.calls.specs.declared.answer.Answer.TheVariants.{Best as best_answer, Way as way_answer}
@@ -63,6 +63,35 @@ module _ (s : State) (v : ℕ) (below : v < length s.table.routers) where
   way_written : (before : List ℕ) → 32 ≤ length before → trace_bytes_at s v before ≡ over_written (way_of s v) before
   way_written before enough = cond-true (nat_lt v (length s.table.routers) && nat_le 32 (length before)) _ _ (and_from _ _ (lt-ltb _ _ below) (le-leb _ _ enough))
 
+-- where a path is injected, a trace that is answered tells the way of a packet and writes it
+pub traces_there :
+    (s : State) (v q : ℕ) → AllLeave s → member s.injected q ≡ true → v < length s.table.routers → (before : List ℕ) → 32 ≤ length before →
+    Traces s v before (over_written (way_of s v) before) (told (way_of s v))
+traces_there s v q leave in_it below before enough =
+    let way = leave q in_it v below in
+    record {
+      met = way.0;
+      path = way.1;
+      leaves = way.3;
+      told = ap (λ (c : Course). told c) way.2;
+      written = ap (λ (c : Course). over_written c before) way.2;
+    }
+
+pub traced_way :
+    (s : State) (v q : ℕ) → AllLeave s → member s.injected q ≡ true → (before : List ℕ) {after : List ℕ} {r : Result (Option Way) CallFault} →
+    r ≡ trace_at s v (length before) → after ≡ trace_bytes_at s v before → IfOk r (Traces s v before after)
+traced_way s v q leave in_it before {after} {r} is bytes_are =
+    elim (cases_lt v (length s.table.routers)) [
+      | inl below ↦
+          elim (cases_lt (length before) 32) [
+            | inl short ↦ subst (λ x. IfOk x (Traces s v before after)) (sym (is ∙ cond-true _ _ _ (lt-ltb _ _ below) ∙ cond-false _ _ _ (lt-leb _ _ short))) tt
+            | inr enough ↦
+                subst (λ x. IfOk x (Traces s v before after)) (sym (is ∙ way_told s v below (length before) enough))
+                (subst (λ bytes. Traces s v before bytes (told (way_of s v))) (sym (bytes_are ∙ way_written s v below before enough)) (traces_there s v q leave in_it below before enough))
+          ]
+      | inr past ↦ subst (λ x. IfOk x (Traces s v before after)) (sym (is ∙ cond-false _ _ _ (le-ltb _ _ past))) tt
+    ]
+
 pub traced_turn :
     (kept : Keeping) (w : World) (t : Turn) (v q : ℕ) (part : Part) → AllLeave w.network → t.call ≡ Report (Trace v) part →
     ((fault : CallFault) → RefusesReport w.network (Trace v) (length (part_of w.bytes part)) fault → ⊥) → member w.network.injected q ≡ true →
@@ -71,17 +100,12 @@ traced_turn kept w t v q part leave asks taken in_it =
     let s = w.network in
     let before = part_of w.bytes part in
     let fits = not_refused s v (length before) taken in
-    let way = leave q in_it v fits.0 in
     record {
-      met = way.0;
-      path = way.1;
-      leaves = way.3;
-      told = (
-        _,
-        refl,
-        ap (answer_to kept w) asks ∙ ap (answered way_answer) (way_told s v fits.0 (length before) fits.1) ∙ ap (λ (c : Course). way_answer (told c)) way.2,
-      );
-      written = ap (bytes_after w) asks ∙ ap (with_part w.bytes part) (way_written s v fits.0 before fits.1 ∙ ap (λ (c : Course). over_written c before) way.2);
+      way = told (way_of s v);
+      into = over_written (way_of s v) before;
+      traces = traces_there s v q leave in_it fits.0 before fits.1;
+      told = (_, refl, ap (answer_to kept w) asks ∙ ap (answered way_answer) (way_told s v fits.0 (length before) fits.1));
+      written = ap (bytes_after w) asks ∙ ap (with_part w.bytes part) (way_written s v fits.0 before fits.1);
     }
 
 -- a router without a path sends nothing on, whichever way that is

@@ -137,10 +137,11 @@ module _ (kept : Keeping) (bytes : List ℕ) (turns : List Turn) where
   abbrev pub with_it : List Move → Move → State
   with_it before m = reached kept (before ++ (m ∷ []))
 
-  -- no call behind those in front was made, and nothing of it is told
+  -- no call behind those in front was made, nothing of it is told, and nothing more happened
   abbrev pub StopsBehind : List Turn → List Turn → Type 0
   StopsBehind front back =
       (told_of turns ≡ told_of front ++ back)
+      × (happened turns ≡ happened front)
       × ((run_of kept bytes turns).made ≡ length front)
       × (world_of kept bytes turns ≡ world_of kept bytes front)
 

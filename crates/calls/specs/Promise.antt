@@ -2,6 +2,7 @@
 use Rattle.std.specs.Prelude.{◌≡◌, ℕ, ◌+◌, ◌<◌, ◌⊎◌, ◌↔◌, true, false, List, [], ◌∷◌, ◌++◌, All, length, drop, Some, None, Option, Decides, IsTrue, slice_index_or}
 use Rattle.costs.specs.Cost.{plain}
 use Rattle.faults.specs.declared.call.CallFault.{CallFault}
+use Rattle.forwarding.specs.declared.packet.Way.{Way}
 use Rattle.layout.specs.Table.{nothing}
 use Rattle.packets.specs.BestPlain.{Best as BestPath, BestIs}
 use Rattle.packets.specs.WaysPlain.{Leaves}
@@ -79,9 +80,10 @@ pub record GoesOn (kept : Keeping) (bytes : List ℕ) (front back : List Turn) :
   pub made : (run_of kept bytes (front ++ back)).made ≡ length front + (behind kept bytes front back).made
   pub world : world_of kept bytes (front ++ back) ≡ (behind kept bytes front back).world
 
--- where the first calls were made, none behind them is
+-- where the first calls were made, none behind them is, and nothing more happens
 pub record Stops (kept : Keeping) (bytes : List ℕ) (front back : List Turn) : Type 0 where
   pub turns : (run_of kept bytes (front ++ back)).turns ≡ (run_of kept bytes front).turns ++ back
+  pub moves : (run_of kept bytes (front ++ back)).moves ≡ (run_of kept bytes front).moves
   pub made : (run_of kept bytes (front ++ back)).made ≡ length front
   pub world : world_of kept bytes (front ++ back) ≡ world_of kept bytes front
 
@@ -108,14 +110,22 @@ pub record Picked (s : State) (v : ℕ) (after : Turn) : Type 0 where
   pub is : BestIs plain s.table (set_of s.advertised v) v path
   pub only : (p : ℕ) → BestPath plain s.table (set_of s.advertised v) v p → path ≡ Some p
 
--- what a trace from router v into a part of the bytes leaves in its turn and in the bytes: how many routers the packet meets, in
--- their order, and the path by which it leaves; all other bytes stay as they were
-pub record Traced (s : State) (v : ℕ) (part : Part) (before behind : List ℕ) (after : Turn) : Type 0 where
+-- what a trace from router v tells and writes: how many routers the packet meets and the path by which it leaves, and the routers
+-- in their order over the front of the buffer; bytes past them stay as they were
+pub record Traces (s : State) (v : ℕ) (before after : List ℕ) (way : Option Way) : Type 0 where
   pub met : List ℕ
   pub path : ℕ
   pub leaves : Leaves plain s.table (best_of s) v met path
-  pub told : Told (way_answer (Some (record { count = length (v ∷ met); path = path }))) after
-  pub written : behind ≡ with_part before part ((v ∷ met) ++ drop (length (v ∷ met)) (part_of before part))
+  pub told : way ≡ Some (record { count = length (v ∷ met); path = path })
+  pub written : after ≡ (v ∷ met) ++ drop (length (v ∷ met)) before
+
+-- a trace into a part of the bytes leaves its answer in its turn; bytes around the part stay as they were
+pub record Traced (s : State) (v : ℕ) (part : Part) (before behind : List ℕ) (after : Turn) : Type 0 where
+  pub way : Option Way
+  pub into : List ℕ
+  pub traces : Traces s v (part_of before part) into way
+  pub told : Told (way_answer way) after
+  pub written : behind ≡ with_part before part into
 
 -- no call of these turns altered an advertised set
 abbrev pub Unaltered : List ℕ → List Turn → Type 0

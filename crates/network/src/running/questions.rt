@@ -53,11 +53,10 @@ impl<R: Rule> Running<R> {
         ensures value { result ≡ of_router (state_of self.now).table router (Ok router) }
         ensures low { IfOk result (λ v. v < 32) }
     {
-        let index = router as usize;
-        if index >= self.count() {
+        let Some(peering) = &self.held.peering else {
             return Err(CallFault::UndeclaredRouter(router));
-        }
-        Ok(index)
+        };
+        peering.distances().table().index_of(router)
     }
 
     // What a router advertises; nothing where it is not declared.

@@ -7,8 +7,9 @@ ghost use Rattle.packets.specs.BestPlain.{Best, BestIs};
 ghost use Rattle.protocol.specs.Network.{set_of};
 ghost use Rattle.protocol.specs.Packets.{AllLeave};
 ghost use Rattle.protocol.specs.Settled.{Settled as AtRest};
-ghost use Rattle.sets.specs.Members.{Empty};
+ghost use Rattle.sets.specs.Members.{member, Empty};
 ghost use Rattle.calls.specs.Calls.{best_at, metric_at, known_at, advertised_at, at_rest, trace_at, trace_bytes_at, answered, reply, report_answer, report_bytes};
+ghost use Rattle.calls.specs.Promise.{Traces};
 ghost use Rattle.calls.specs.Refusals.{NoSuchRouter, RefusesQuestion, RefusesReport};
 ghost use Rattle.calls.specs.declared.answer.Answer.TheVariants.{Refused, Way as way_answer, Written};
 ghost use Rattle.calls.specs.declared.report.Report.TheVariants.{Trace, List as list_report};
@@ -119,6 +120,8 @@ impl<R: Rule> Settled<R> {
         ensures value { result ≡ trace_at (state_of self.now) router (length met.old) }
         ensures bytes { met.new ≡ trace_bytes_at (state_of self.now) router met.old }
         ensures leaves { AllLeave (state_of self.now) }
+        ensures way { (p : ℕ) → IsTrue (member (state_of self.now).injected p) →
+            IfOk result (Traces (state_of self.now) router met.old met.new) }
         ensures none { IfOk result (λ way. (way ≡ None) ↔ Empty (state_of self.now).injected) }
         ensures refuses { (fault : Fault) → (result ≡ Err fault) ↔
             RefusesReport (state_of self.now) (Trace router) (length met.old) fault }

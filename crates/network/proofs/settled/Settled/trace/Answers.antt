@@ -1,6 +1,6 @@
 use Rattle.std.proofs.Common.{length, ◌∙◌}
 use Rattle.protocol.proofs.Leaving.{all_leave}
-use Rattle.calls.proofs.Tracing.{trace_nowhere}
+use Rattle.calls.proofs.Tracing.{traced_way, trace_nowhere}
 use Rattle.network.specs.Settled.{state_of}
 use Rattle.network.proofs.Traced.{traces, traces_bytes}
 use Rattle.network.proofs.Whole.{fits_of}
@@ -19,6 +19,10 @@ returns-clause-leaves g c =
     let n = c.args.self.now.running in
     let laws = g.R.Rule.laws n.rule in
     all_leave laws (fits_of laws n.held.peering) n.consistent c.args.self.now.at_rest
+
+pub returns-clause-way : goal.returns-clause-way
+returns-clause-way g c p in_it =
+    traced_way (state_of c.args.self.now) c.args.router p (returns-clause-leaves g c) in_it c.args.met.now (returns-clause-value g c) (returns-clause-bytes g c)
 
 pub returns-clause-none : goal.returns-clause-none
 returns-clause-none g c =
