@@ -81,7 +81,7 @@ comes_at kept before m behind s come = (come_back kept before (m ∷ behind) s c
 pub all_named : (n w : ℕ) (ws : List ℕ) → ((v : ℕ) → v < n → IsTrue (member w v)) → Round n (w ∷ ws)
 all_named n w ws all v below = or_left (member w v) (named ws v) (all v below)
 
-all_rounds : (n w k : ℕ) → ((v : ℕ) → v < n → IsTrue (member w v)) → Rounds n k (replicate k w)
+pub all_rounds : (n w k : ℕ) → ((v : ℕ) → v < n → IsTrue (member w v)) → Rounds n k (replicate k w)
 all_rounds n w zero all = begins []
 all_rounds n w (suc k) all = then (w ∷ []) (replicate k w) k (all_named n w [] all) (all_rounds n w k all)
 

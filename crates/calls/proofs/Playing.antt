@@ -147,6 +147,7 @@ module _ {kept : Keeping} (laws : Laws kept) (bytes : List ℕ) where
           declares = λ front back whole made. says_declared laws front (beginning bytes) made (begun_sane laws) (come_so_far front back whole);
           injects = λ front back q whole made. injects front (come_so_far front back whole) q made;
           shown = shown_next;
+          reads = λ front back t read whole made offers asks. subst Typed asks (typed_next front back t whole made offers);
           stops = λ front back t whole made none. stops kept bytes front back t made none;
           rounds = λ front ts back whole made none.
               let come_there = come_so_far (front ++ ts) back (whole ∙ sym (append_assoc front ts back)) in

@@ -1,26 +1,33 @@
 -- What follows from the promise of a run, of what a turn tells and of networks at rest.
-use Rattle.std.proofs.Common.{◌≡◌, ℕ, suc, ◌<◌, ◌≤◌, ◌⊎◌, true, All, List, [], ◌∷◌, ◌++◌, length, take, drop, get_or, Some, None, Ok, Err, Option, sym, refl, ap, ◌∙◌, subst, inl, inr, arith}
-use Rattle.std.specs.Prelude.{IsTrue}
+use Rattle.std.proofs.Common.{◌≡◌, ℕ, ◌≤◌, ◌⊎◌, true, All, List, replicate, Result, [], ◌∷◌, ◌++◌, length, take, drop, get_or, Some, None, Ok, Err, Option, sym, refl, ap, ◌∙◌, subst, inl, inr, arith}
 use Rattle.std.proofs.lemmas.Bool.{both_ways}
 use Rattle.std.proofs.lemmas.List.{get_or_at, length-take-le, length-take, length-drop}
-use Rattle.std.proofs.lemmas.List.Elements.{All-head, All-tail}
+use Rattle.std.proofs.lemmas.List.Elements.{All-nil, All-cons, All-head, All-tail}
 use Rattle.costs.specs.Cost.{plain}
 use Rattle.faults.specs.declared.call.CallFault.{CallFault}
-use Rattle.faults.specs.declared.call.CallFault.TheVariants.{NoRouterNamed}
+use Rattle.faults.specs.declared.call.CallFault.TheVariants.{Load as load_fault, NoRouterNamed}
+use Rattle.faults.specs.declared.load.LoadFault.{LoadFault}
 use Rattle.forwarding.specs.declared.packet.Way.{Way}
+use Rattle.layout.specs.Encoding.{encoded}
+use Rattle.layout.specs.Reading.{table_in}
+use Rattle.layout.specs.Table.{Declared}
+use Rattle.layout.specs.WellFormed.{WellFormed}
 use Rattle.packets.specs.BestPlain.{BestIs}
 use Rattle.packets.specs.WaysPlain.{Leaves}
 use Rattle.selection.specs.Laws.{Keeping}
-use Rattle.sets.specs.Members.{member, Empty}
+use Rattle.sets.specs.Members.{Empty}
 use Rattle.sets.proofs.Digits.{member_none}
 use Rattle.protocol.specs.Network.{State, set_of}
 use Rattle.protocol.specs.Packets.{best_of}
+use Rattle.protocol.specs.Alters.{Becomes}
+use Rattle.protocol.specs.Moves.{one_by_one, all_of}
 use Rattle.protocol.specs.Settled.{Round, Rounds}
-use Rattle.protocol.specs.Settled.Rounds.{begins, then}
-use Rattle.calls.specs.Calls.{Coming, coming, answered}
+use Rattle.protocol.proofs.Resting.{one_by_one_round}
+use Rattle.protocol.proofs.Stretches.{round_in_front}
+use Rattle.calls.specs.Calls.{Coming, coming, loading_by, answered}
 use Rattle.calls.specs.Follows.{LeavesNetwork, AnswersDone, WritesNothing, Place, turn_then, world_then, network_then, Midst, FollowsOfTurns, FollowsOfRest, Follows}
 use Rattle.calls.specs.History.{Told, Accepts}
-use Rattle.calls.specs.Promise.{world_of, network_of, behind, Refuses, NotRefused, Does, Shown, Rounded, Plays}
+use Rattle.calls.specs.Promise.{world_of, network_of, behind, Refuses, NotRefused, Does, Shown, Unaltered, Rounded, Plays}
 use Rattle.calls.specs.Rounds.{step_by, steps_by, steps_in}
 use Rattle.calls.specs.Turns.{World, part_of, with_part, offered, bytes_after, answer_to}
 use Rattle.calls.specs.declared.action.Action.TheVariants.{Load, Inject, Withdraw, Restart, Step}
@@ -33,7 +40,7 @@ use Rattle.calls.specs.declared.report.Part.{Part}
 use Rattle.calls.specs.declared.report.Report.TheVariants.{Trace, List as list_report}
 use Rattle.calls.specs.declared.turn.Outcome.{Outcome}
 use Rattle.calls.specs.declared.turn.Turn.{Turn}
-use Rattle.calls.proofs.Following.{all_at, all_named, follows_of_calls, follows_of_moves}
+use Rattle.calls.proofs.Following.{all_at, all_named, all_rounds, follows_of_calls, follows_of_moves}
 use Rattle.calls.proofs.Tracing.{not_refused}
 
 -- a turn tells one answer
@@ -107,19 +114,23 @@ step_is n w t h =
     ∙ ap (λ (o : Option Outcome). steps_by n (Act (Step w)) o) h.1.1
     ∙ ap (step_by w) h.1.2
 
-module _ (n w : ℕ) (all : (v : ℕ) → v < n → IsTrue (member w v)) where
-  steps_rounds : (ts : List Turn) → All (Accepts (Step w)) ts → Rounds n (length ts) (steps_in n ts)
-  steps_rounds [] each = begins []
-  steps_rounds (t ∷ ts) each =
-      let rest = steps_in n ts in
-      subst (λ (ws : List ℕ). Rounds n (suc (length ts)) (ws ++ rest)) (sym (step_is n w t (All-head (Accepts (Step w)) t ts each)))
-      (then (w ∷ []) rest (length ts) (all_named n w [] all) (steps_rounds ts (All-tail (Accepts (Step w)) t ts each)))
+steps_counted : (n w : ℕ) (ts : List Turn) → All (Accepts (Step w)) ts → steps_in n ts ≡ replicate (length ts) w
+steps_counted n w [] each = refl
+steps_counted n w (t ∷ ts) each =
+    ap (λ (ws : List ℕ). ws ++ steps_in n ts) (step_is n w t (All-head (Accepts (Step w)) t ts each))
+    ∙ ap (λ (ws : List ℕ). w ∷ ws) (steps_counted n w ts (All-tail (Accepts (Step w)) t ts each))
 
-  steps_round : (ts : List Turn) → All (Accepts (Step w)) ts → length ts ≡ 1 → Round n (steps_in n ts)
-  steps_round [] each one = absurd (omega (arith, one))
-  steps_round (t ∷ ts) each one =
-      subst (λ (ws : List ℕ). Round n (ws ++ steps_in n ts)) (sym (step_is n w t (All-head (Accepts (Step w)) t ts each)))
-      (all_named n w (steps_in n ts) all)
+one_unaltered : (advertised : List ℕ) (t : Turn) (o : Outcome) → t.outcome ≡ Some o → o.advertised ≡ advertised → Unaltered advertised (t ∷ [])
+one_unaltered advertised t o made same =
+    All-cons (λ (u : Turn). (x : Outcome) → u.outcome ≡ Some x → x.advertised ≡ advertised) t []
+    (λ x is. let one : o ≡ x = (let e = made in let f = is in cc) in ap (λ (y : Outcome). y.advertised) (sym one) ∙ same) (All-nil _)
+
+-- a settle names every router
+settle_round : (n : ℕ) (t : Turn) (o : Outcome) → t.call ≡ Settle → t.outcome ≡ Some o → Round n (steps_in n (t ∷ []))
+unfolding all_of
+settle_round n t o asks made =
+    let steps : steps_by n t.call t.outcome ≡ all_of n 7 = ap (λ (c : Call). steps_by n c t.outcome) asks ∙ ap (λ (x : Option Outcome). steps_by n Settle x) made in
+    subst (λ (ws : List ℕ). Round n (ws ++ [])) (sym steps) (round_in_front n (all_of n 7) [] (round_in_front n (one_by_one n) (all_of n 6) (one_by_one_round n)))
 
 -- the byte where a part begins that has some bytes
 first_byte : (bytes : List ℕ) (part : Part) (v d : ℕ) (new : List ℕ) → 32 ≤ length (part_of bytes part) → get_or (with_part bytes part (v ∷ new)) part.start d ≡ v
@@ -158,6 +169,7 @@ module _ {kept : Keeping} {bytes : List ℕ} {turns : List Turn} (plays : Plays 
                   tells.0 (cc),
               λ settled. (told_so.0, told_so.1, told_so.2 ∙ ap (λ b. settled_answer b) (tells.1 settled)),
             );
+        tested = λ front back whole. plays.told front back whole;
         reported = λ front t r part p asks.
             let shown = shown_at front t p in
             (answers front t shown (Report r part) asks, shown.bytes ∙ ap (bytes_after (world_of kept bytes front)) asks);
@@ -198,6 +210,26 @@ module _ {kept : Keeping} {bytes : List ℕ} {turns : List Turn} (plays : Plays 
             let is_done = answer_is front t shown Done accepted.1 in
             let did = subst (λ (c : Call). Does kept (network_of kept bytes front) c (network_then kept bytes turns front t)) asks (shown.does (λ fault e. let clash : ⊥ = cc in clash)) in
             did;
+        loaded = λ front t read p accepted.
+            let shown = shown_at front t p in
+            let asks : t.call ≡ Act (Load read) = sym shown.call ∙ accepted.0 in
+            let is_done = answer_is front t shown Done accepted.1 in
+            let did = subst (λ (c : Call). Does kept (network_of kept bytes front) c (network_then kept bytes turns front t)) asks (shown.does (λ fault e. let clash : ⊥ = cc in clash)) in
+            let becomes = subst (Becomes kept (network_of kept bytes front) (network_then kept bytes turns front t)) did.1.2 did.2 in
+            let accepts = (plays.reads front p.back t read p.whole p.made p.offers asks).accepted did.1.0 did.1.1 in
+            subst (λ (d : Declared). WellFormed d × (read.now ≡ encoded d)) (sym becomes.table) accepts;
+        loads = λ front t read d p asks well is.
+            let shown = shown_at front t p in
+            let w = world_of kept bytes front in
+            let in_it = (plays.reads front p.back t read p.whole p.made p.offers asks).accepts d well is in
+            (shown.outcome, shown.made, shown.answered ∙ ap (answer_to kept w) asks ∙ ap (λ (r : Result Declared LoadFault). answered (λ m. Done) (loading_by r)) in_it);
+        load_refused = λ front t read why p asks told.
+            let shown = shown_at front t p in
+            let because = subst (λ (c : Call). Refuses (world_of kept bytes front) c (load_fault why)) asks ((shown.refuses (load_fault why)).0 (answer_is front t shown (Refused (load_fault why)) told)) in
+            let same : because.0 ≡ why = (let e = because.2 in cc) in
+            let broken : table_in read.now ≡ Err why = because.1 ∙ ap (λ (f : LoadFault). Err f) same in
+            let reads = plays.reads front p.back t read p.whole p.made p.offers asks in
+            (reads.refused why broken, reads.near why broken);
         settles = λ front t p asks.
             let shown = shown_at front t p in
             let did = subst (λ (c : Call). Does kept (network_of kept bytes front) c (network_then kept bytes turns front t)) asks
@@ -219,12 +251,19 @@ module _ {kept : Keeping} {bytes : List ℕ} {turns : List Turn} (plays : Plays 
   pub follows_of_rest : FollowsOfRest kept bytes turns
   follows_of_rest =
       record {
-        six_steps = λ front ts w p are all.
+        counted = steps_counted;
+        six_steps = λ front ts w p steps all.
             let n = length (network_of kept bytes front).table.routers in
-            let us = (behind kept bytes front ts).turns in
-            (rounded front ts p).settles (subst (λ (k : ℕ). Rounds n k (steps_in n us)) are.so_many (steps_rounds n w all us are.steps));
-        quiet_call = λ front ts w p are all same.
-            (rounded front ts p).quiet (steps_round (length (network_of kept bytes front).table.routers) w all (behind kept bytes front ts).turns are.steps are.so_many) same;
+            (rounded front ts p).settles (subst (Rounds n 6) (sym steps) (all_rounds n w 6 all));
+        quiet_call = λ front ts w p steps all same.
+            let n = length (network_of kept bytes front).table.routers in
+            (rounded front ts p).quiet (subst (Round n) (sym steps) (all_named n w [] all)) same;
+        quiet_settle = λ front ts t o p is asks made same.
+            let s = network_of kept bytes front in
+            let n = length s.table.routers in
+            (rounded front ts p).quiet
+            (subst (λ (us : List Turn). Round n (steps_in n us)) (sym is) (settle_round n t o asks made))
+            (subst (Unaltered s.advertised) (sym is) (one_unaltered s.advertised t o made same));
         none_altered = λ front ts before later t o p settled is made.
             let alike = λ (u : Turn). (x : Outcome) → u.outcome ≡ Some x → x.advertised ≡ (network_of kept bytes front).advertised in
             all_at alike before t later (subst (All alike) is ((rounded front ts p).stays settled)) o made;

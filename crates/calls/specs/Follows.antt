@@ -5,10 +5,15 @@ use Rattle.std.specs.Borrow.{Bor}
 use Rattle.costs.specs.Cost.{plain}
 use Rattle.costs.specs.Once.{Once}
 use Rattle.faults.specs.declared.call.CallFault.{CallFault}
-use Rattle.faults.specs.declared.call.CallFault.TheVariants.{NoRouterNamed}
+use Rattle.faults.specs.Faults.{place_of}
+use Rattle.faults.specs.declared.call.CallFault.TheVariants.{Load as load_fault, NoRouterNamed}
+use Rattle.faults.specs.declared.load.LoadFault.{LoadFault}
 use Rattle.forwarding.specs.declared.packet.Way.{Way}
+use Rattle.layout.specs.Encoding.{encoded}
+use Rattle.layout.specs.Promise.{Broken}
 use Rattle.layout.specs.Reading.{table_in}
-use Rattle.layout.specs.Table.{nothing}
+use Rattle.layout.specs.Table.{Declared, nothing}
+use Rattle.layout.specs.WellFormed.{WellFormed}
 use Rattle.packets.specs.Best.{exit_of}
 use Rattle.packets.specs.BestPlain.{Best as BestPath}
 use Rattle.packets.specs.WaysPlain.{Leaves}
@@ -23,8 +28,9 @@ use Rattle.protocol.specs.Plain.{Learns}
 use Rattle.protocol.specs.Runs.{Comes, reached}
 use Rattle.protocol.specs.Settled.{Settled, stretch}
 use Rattle.calls.specs.History.{Told, Accepts, Loads, Changes, IsMove}
-use Rattle.calls.specs.Calls.{reply, report_answer, report_bytes}
+use Rattle.calls.specs.Calls.{at_rest, reply, report_answer, report_bytes}
 use Rattle.calls.specs.Promise.{run_of, world_of, network_of, AllMade, behind, Refuses, turn_of, Unaltered}
+use Rattle.calls.specs.Rounds.{steps_in}
 use Rattle.calls.specs.Turns.{World, part_of, with_part, offered}
 use Rattle.calls.specs.declared.action.Action.{Action}
 use Rattle.calls.specs.declared.action.Action.TheVariants.{Load, Inject, Withdraw, Step}
@@ -284,6 +290,10 @@ module _ (kept : Keeping) (bytes : List ℕ) (turns : List Turn) where
     pub settled_told :
         (front : List Turn) (t : Turn) → Place front t → t.call ≡ Ask whether_settled →
         Told (settled_answer true) (turn_then front t) ↔ Settled kept (network_of kept bytes front)
+    -- the test by which that is told holds of no other network, made or not what is behind it
+    pub tested :
+        (front back : List Turn) → turns ≡ front ++ back →
+        IsTrue (at_rest kept (network_of kept bytes front)) ↔ Settled kept (network_of kept bytes front)
     -- a report is answered, and goes into its part; no other call writes
     pub reported :
         (front : List Turn) (t : Turn) (r : Reported) (part : Part) → Place front t →
@@ -327,6 +337,20 @@ module _ (kept : Keeping) (bytes : List ℕ) (turns : List Turn) where
         (m : Move)
         × IsMove a m
         × Becomes kept (network_of kept bytes front) (network_then front t) m
+    -- a load is told as done exactly if its bytes are the encoding of a well-formed table, which the
+    -- network has then; a refused one names what is wrong with them
+    pub loaded :
+        (front : List Turn) (t : Turn) (read : Bor (List ℕ)) → Place front t →
+        Accepts (Load read) (turn_then front t) →
+        WellFormed (network_then front t).table × (read.now ≡ encoded (network_then front t).table)
+    pub loads :
+        (front : List Turn) (t : Turn) (read : Bor (List ℕ)) (d : Declared) → Place front t →
+        t.call ≡ Act (Load read) → WellFormed d → read.now ≡ encoded d →
+        Told Done (turn_then front t)
+    pub load_refused :
+        (front : List Turn) (t : Turn) (read : Bor (List ℕ)) (why : LoadFault) → Place front t →
+        t.call ≡ Act (Load read) → Told (Refused (load_fault why)) (turn_then front t) →
+        Broken read.now why × (place_of why ≤ 2272)
     -- behind settle the network is settled, with the table and the injected paths that it had
     pub settles :
         (front : List Turn) (t : Turn) → Place front t → t.call ≡ Settle →
@@ -347,23 +371,32 @@ module _ (kept : Keeping) (bytes : List ℕ) (turns : List Turn) where
     pub made : AllMade kept bytes (front ++ ts)
     pub none : All (λ t. Changes t → ⊥) (behind kept bytes front ts).turns
 
-  -- each of so many accepted calls is a step of these routers
-  pub record AreSteps (front ts : List Turn) (w count : ℕ) : Type 0 where
-    pub steps : All (Accepts (Step w)) (behind kept bytes front ts).turns
-    pub so_many : length (behind kept bytes front ts).turns ≡ count
+  -- these calls make so many steps of the routers of set w, and no other step
+  abbrev pub MakeSteps : List Turn → List Turn → ℕ → ℕ → Type 0
+  MakeSteps front ts w count =
+      steps_in (length (network_of kept bytes front).table.routers) (behind kept bytes front ts).turns
+      ≡ replicate count w
 
   -- of steps that are called, and of what is told of best paths and of packets
   pub record FollowsOfRest : Type 0 where
-    -- six accepted steps of all routers settle the network
+    -- each accepted step is counted
+    pub counted :
+        (n w : ℕ) (ts : List Turn) → All (Accepts (Step w)) ts → steps_in n ts ≡ replicate (length ts) w
+    -- six steps of all routers settle the network
     pub six_steps :
-        (front ts : List Turn) (w : ℕ) → Midst front ts → AreSteps front ts w 6 →
+        (front ts : List Turn) (w : ℕ) → Midst front ts → MakeSteps front ts w 6 →
         NamesAll (network_of kept bytes front) w →
         Settled kept (network_of kept bytes (front ++ ts))
-    -- one that is told to alter no advertised set shows that it was settled
+    -- one, or a settle, by which no advertised set is told to be altered shows that it was settled
     pub quiet_call :
-        (front ts : List Turn) (w : ℕ) → Midst front ts → AreSteps front ts w 1 →
+        (front ts : List Turn) (w : ℕ) → Midst front ts → MakeSteps front ts w 1 →
         NamesAll (network_of kept bytes front) w →
         Unaltered (network_of kept bytes front).advertised (behind kept bytes front ts).turns →
+        Settled kept (network_of kept bytes front)
+    pub quiet_settle :
+        (front ts : List Turn) (t : Turn) (o : Outcome) → Midst front ts →
+        (behind kept bytes front ts).turns ≡ t ∷ [] → t.call ≡ Settle → t.outcome ≡ Some o →
+        o.advertised ≡ (network_of kept bytes front).advertised →
         Settled kept (network_of kept bytes front)
     -- and where it was settled, no call but a change is told to alter one
     pub none_altered :

@@ -1,8 +1,11 @@
 -- What is promised of a run of calls on a network that begins empty.
 use Rattle.std.specs.Prelude.{◌≡◌, ℕ, ◌+◌, ◌<◌, ◌⊎◌, ◌↔◌, true, false, List, [], ◌∷◌, ◌++◌, All, length, drop, Some, None, Option, Decides, IsTrue, slice_index_or}
+use Rattle.std.specs.Borrow.{Bor}
 use Rattle.costs.specs.Cost.{plain}
 use Rattle.faults.specs.declared.call.CallFault.{CallFault}
 use Rattle.forwarding.specs.declared.packet.Way.{Way}
+use Rattle.layout.specs.Promise.{Reads}
+use Rattle.layout.specs.Reading.{table_in}
 use Rattle.layout.specs.Table.{nothing}
 use Rattle.packets.specs.BestPlain.{Best as BestPath, BestIs}
 use Rattle.packets.specs.WaysPlain.{Leaves}
@@ -19,6 +22,7 @@ use Rattle.calls.specs.Refusals.{RefusesAction, RefusesQuestion, RefusesReport}
 use Rattle.calls.specs.Rounds.{steps_in}
 use Rattle.calls.specs.Turns.{World, beginning, part_of, with_part, bytes_after, Run, run, offered, answer_to}
 use Rattle.calls.specs.Calls.{at_rest}
+use Rattle.calls.specs.declared.action.Action.TheVariants.{Load}
 use Rattle.calls.specs.declared.answer.Answer.TheVariants.{Best as best_answer, Way as way_answer, Refused}
 use Rattle.calls.specs.declared.call.Call.{Call}
 use Rattle.calls.specs.declared.call.Call.TheVariants.{Act, Settle, Reopen, Ask, Report}
@@ -166,6 +170,10 @@ pub record Plays (kept : Keeping) (bytes : List ℕ) (turns : List Turn) : Type 
   pub shown :
       (front back : List Turn) (t : Turn) → turns ≡ front ++ (t ∷ back) → AllMade kept bytes front → offered (world_of kept bytes front).settled t.call ≡ true →
       Shown kept (world_of kept bytes front) (world_of kept bytes (front ++ (t ∷ []))) t (turn_of kept bytes turns front t)
+  -- the bytes of a load are read as is promised of the bytes of a table
+  pub reads :
+      (front back : List Turn) (t : Turn) (read : Bor (List ℕ)) → turns ≡ front ++ (t ∷ back) → AllMade kept bytes front →
+      offered (world_of kept bytes front).settled t.call ≡ true → t.call ≡ Act (Load read) → Reads read.now (table_in read.now)
   -- in front of one that is not offered the run stops, and the turns from there on stay as they were
   pub stops :
       (front back : List Turn) (t : Turn) → turns ≡ front ++ (t ∷ back) → AllMade kept bytes front → offered (world_of kept bytes front).settled t.call ≡ false →

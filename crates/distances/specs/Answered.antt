@@ -7,12 +7,20 @@ use Rattle.layout.specs.Table.{Declared}
 use Rattle.costs.specs.Cost.{plain}
 use Rattle.costs.specs.Least.{distance}
 use Rattle.tables.specs.Accepted.{declared}
+use Rattle.tables.specs.declared.table.Table.{Table}
 pub use Rattle.tables.specs.Asked.{of_router, undeclared, of_routers}
 use Rattle.distances.specs.declared.distances.Distances.{Distances}
 
--- what the table of these distances declares
+-- how clauses see distances: by their table, which is the one that they were worked out for, and by the costs in their rows
+abbrev pub its_table : Distances → Table
+its_table d = d.table
+
+abbrev pub its_costs : Distances → List (List ℕ)
+its_costs d = d.costs
+
+-- what their table declares
 abbrev pub declared_by : Distances → Declared
-declared_by d = declared d.table
+declared_by d = declared (its_table d)
 
 -- what was answered: the numbers of the slice, or the fault
 abbrev pub read : {F : Type 0} → Result (Bor (List ℕ)) F → Result (List ℕ) F

@@ -1,1 +1,2 @@
 pub mod Peered
+pub mod Seen

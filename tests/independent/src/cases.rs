@@ -1,5 +1,5 @@
-//! Lines for the program `cases`, and what it prints for each. What is kept of a set, where routers
-//! send their traffic and what is refused is as the pages say, and how a line looks as in
+//! Lines for the program `cases`, and what it prints for each. What is kept of a set, which paths
+//! routers take and what is refused is as the pages say, and how a line looks as in
 //! crates/cases/stdout. Lines with calls on a network stand last there, and are none of these.
 
 use crate::direct::{LEAST_BUFFER, SHORT_BUFFER, UNDECLARED_PATH};

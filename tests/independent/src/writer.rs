@@ -1,5 +1,5 @@
 //! Writes the calls of a random script. About a third of them is refused, and the others are such
-//! that the network often comes to rest.
+//! that the network is often settled.
 
 use crate::network::{LIST_BUFFER, TRACE_BUFFER};
 use crate::phase::Phase;

@@ -1,5 +1,5 @@
 ghost use Rattle.std.specs.Prelude.{◌≡◌, ◌*◌, ◌≤◌, length, take, IfOk, All};
-ghost use Rattle.distances.specs.Answered.{declared_by, read, of_router, row_answer, between_answer};
+ghost use Rattle.distances.specs.Answered.{its_table, declared_by, read, of_router, row_answer, between_answer};
 
 use crate::distances::Distances;
 use faults::CallFault;
@@ -17,7 +17,7 @@ fn front(row: &[u32; 32], count: usize) -> &[u32]
 impl Distances {
     // The table whose distances these are.
     pub fn table(&self) -> &Table
-        ensures { result.now ≡ self.now.table }
+        ensures { result.now ≡ its_table self.now }
     {
         &self.table
     }

@@ -1,10 +1,11 @@
-ghost use Rattle.std.specs.Prelude.{◌≡◌, ℕ, ◌<◌, ◌↔◌, Err, Ok, IfOk, IsTrue, Some};
+ghost use Rattle.std.specs.Prelude.{◌≡◌, ℕ, ◌<◌, ◌↔◌, Err, Ok, IfOk, IsTrue, None, Some};
 ghost use Rattle.costs.specs.Cost.{plain};
 ghost use Rattle.distances.specs.Answered.{of_router};
 ghost use Rattle.faults.specs.declared.call.CallFault.{CallFault as Fault};
 ghost use Rattle.packets.specs.BestPlain.{Best, BestIs};
 ghost use Rattle.protocol.specs.Network.{set_of};
 ghost use Rattle.protocol.specs.Settled.{Settled as AtRest};
+ghost use Rattle.sets.specs.Members.{Empty};
 ghost use Rattle.calls.specs.Calls.{best_at, metric_at, known_at, advertised_at, at_rest, answered, reply};
 ghost use Rattle.calls.specs.Refusals.{NoSuchRouter, RefusesQuestion};
 ghost use Rattle.calls.specs.declared.answer.Answer.TheVariants.{Paths, Refused, Best as best_answer, Metric as metric_answer};
@@ -67,14 +68,16 @@ impl<R: Rule> Running<R> {
         advertised.copied().unwrap_or_default()
     }
 
-    /// The best path of a router of what it advertises; none where it advertises nothing. Refused with 12 where the router is
-    /// not declared.
+    /// The best path of a router of what it advertises; none where it advertises nothing, and where the network is settled just
+    /// where nothing is injected. Refused with 12 where the router is not declared.
     pub fn best(&self, router: u32) -> Result<Option<u8>, CallFault>
         ensures value { result ≡ best_at (state_of self.now) router }
         ensures picks { IfOk result (BestIs plain (state_of self.now).table
             (set_of (state_of self.now).advertised router) router) }
         ensures only { IfOk result (λ path. (p : ℕ) → Best plain (state_of self.now).table
             (set_of (state_of self.now).advertised router) router p → path ≡ Some p) }
+        ensures none { AtRest (R.kept (rule_of self.now)) (state_of self.now) →
+            IfOk result (λ path. (path ≡ None) ↔ Empty (state_of self.now).injected) }
         ensures refuses { (fault : Fault) →
             (result ≡ Err fault) ↔ NoSuchRouter (state_of self.now) router fault }
     {

@@ -1,5 +1,6 @@
 ghost use Rattle.std.specs.Prelude.{◌≡◌};
 ghost use Rattle.distances.specs.Answered.{declared_by};
+ghost use Rattle.peering.specs.Seen.{its_distances};
 
 use crate::peering::Peering;
 use crate::roles::{client_exits_of, peers_of};
@@ -9,7 +10,7 @@ use sets::{PathSet, RouterSet};
 impl Peering {
     // What there is to know of the routers of a table.
     pub fn of(distances: Distances) -> Peering
-        ensures { declared_by result.distances ≡ declared_by distances }
+        ensures { declared_by (its_distances result) ≡ declared_by distances }
     {
         let mut exits = [PathSet::empty(); 32];
         let mut client_exits = [PathSet::empty(); 32];
@@ -30,7 +31,7 @@ impl Peering {
 
     // The table and its distances.
     pub fn distances(&self) -> &Distances
-        ensures { result.now ≡ self.now.distances }
+        ensures { result.now ≡ its_distances self.now }
     {
         &self.distances
     }

@@ -2,6 +2,7 @@ ghost use Rattle.std.specs.Prelude.{◌≡◌, ℕ, ◌<◌, ◌&&◌, not, leng
 ghost use Rattle.distances.specs.Answered.{declared_by, of_router};
 ghost use Rattle.protocol.specs.Network.{own_of, learned};
 ghost use Rattle.sets.specs.Members.{member};
+ghost use Rattle.peering.specs.Seen.{its_distances};
 ghost use Rattle.peering.specs.Peered.{exits_by, client_exits_by, peer_by, reflected_by, passed_by};
 
 use crate::peering::Peering;
@@ -87,8 +88,8 @@ impl Peering {
 
     // The injected paths of a router.
     pub fn own(&self, injected: PathSet, router: u32) -> Result<PathSet, CallFault>
-        ensures { result ≡ of_router (declared_by self.now.distances) router
-            (Ok (own_of (declared_by self.now.distances) injected router)) }
+        ensures { result ≡ of_router (declared_by (its_distances self.now)) router
+            (Ok (own_of (declared_by (its_distances self.now)) injected router)) }
     {
         let v = self.index_of(router)?;
         Ok(injected.intersection(self.exits_of(v)))
@@ -101,8 +102,8 @@ impl Peering {
         advertised: &[PathSet; 32],
         router: u32,
     ) -> Result<PathSet, CallFault>
-        ensures { result ≡ of_router (declared_by self.now.distances) router
-            (Ok (learned (declared_by self.now.distances) injected advertised.now router)) }
+        ensures { result ≡ of_router (declared_by (its_distances self.now)) router
+            (Ok (learned (declared_by (its_distances self.now)) injected advertised.now router)) }
     {
         let v = self.index_of(router)?;
         let mut known = injected.intersection(self.exits_of(v));
