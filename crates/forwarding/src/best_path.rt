@@ -1,6 +1,7 @@
-ghost use Rattle.std.specs.Prelude.{◌≡◌, ℕ, ◌+◌, ◌*◌, ◌^◌, ◌<◌, ◌≤◌, length, IfErr, IfNone, IfOk, OnOk, Some, slice_index};
+ghost use Rattle.std.specs.Prelude.{◌≡◌, ℕ, ◌+◌, ◌*◌, ◌^◌, ◌<◌, ◌≤◌, ◌↔◌, length, Err, IfNone, IfOk, OnOk, Some, slice_index};
 ghost use Rattle.costs.specs.Cost.{plain};
 ghost use Rattle.distances.specs.Answered.{declared_by, of_router};
+ghost use Rattle.faults.specs.declared.call.CallFault.{CallFault as Fault};
 ghost use Rattle.forwarding.specs.Answers.{best_answer, metric_answer};
 ghost use Rattle.forwarding.specs.Ranks.{rank_of};
 ghost use Rattle.forwarding.specs.Refusals.{BestAsked, BestRefused};
@@ -44,12 +45,13 @@ pub(crate) fn lowest_undeclared(distances: &Distances, set: PathSet) -> Option<u
     set.least_from(distances.table().paths().len() as u32)
 }
 
-// The best path of a router of a set that was looked at before: what is not declared is passed over.
+// The best path of a router of a set of declared paths.
 pub(crate) fn best_declared(
     distances: &Distances,
     router: u32,
     set: PathSet,
 ) -> Result<Option<u8>, CallFault>
+    requires { AllDeclared (declared_by distances.now).paths set }
     ensures value { result ≡ of_router (declared_by distances.now) router
         (Ok (best plain (declared_by distances.now) set router)) }
     ensures plain { IfOk result (BestIs plain (declared_by distances.now) set router) }
@@ -58,20 +60,22 @@ pub(crate) fn best_declared(
 {
     let row = distances.row(router)?;
     let paths = distances.table().paths();
-    let mut first = None;
-    // No rank reaches the largest number, so the first path needs no case of its own.
-    let mut lowest = u64::MAX;
-    // The lower numbers come before the higher, so of equal ranks the first one stays.
-    for p in set {
+    let Some(mut first) = set.least() else {
+        return Ok(None);
+    };
+    let mut lowest = rank(router, row, paths[first as usize]);
+    // The lower numbers come before the higher, so of equal ranks the first one stays. With `get`, which finds every path of the
+    // set, the compiler leaves a branch here that is seldom taken, and is quicker than without.
+    for p in set.without(first) {
         if let Some(path) = paths.get(p as usize) {
             let rank = rank(router, row, *path);
             if rank < lowest {
                 lowest = rank;
-                first = Some(p as u8);
+                first = p;
             }
         }
     }
-    Ok(first)
+    Ok(Some(first as u8))
 }
 
 // The best path of a router of a set of declared paths: if some of the set leave at the router itself, only those count; of
@@ -80,7 +84,8 @@ pub(crate) fn best_declared(
 pub fn best(distances: &Distances, router: u32, set: PathSet) -> Result<Option<u8>, CallFault>
     ensures value { result ≡ best_answer (declared_by distances.now) set router }
     ensures asked { OnOk result (BestAsked (declared_by distances.now) set router) }
-    ensures refused { IfErr result (BestRefused (declared_by distances.now) set router) }
+    ensures refuses { (fault : Fault) →
+        (result ≡ Err fault) ↔ BestRefused (declared_by distances.now) set router fault }
     ensures plain { IfOk result (BestIs plain (declared_by distances.now) set router) }
     ensures only { IfOk result (λ path. (p : ℕ) → Best plain (declared_by distances.now) set router p → path ≡ Some p) }
 {

@@ -1,10 +1,12 @@
-ghost use Rattle.std.specs.Prelude.{◌≡◌, ◌<◌, ◌≤◌, length, IfErr, OnErr, OnOk};
+ghost use Rattle.std.specs.Prelude.{◌≡◌, ◌<◌, ◌≤◌, ◌↔◌, length, Err, OnErr, OnOk};
 ghost use Rattle.costs.specs.Cost.{plain};
 ghost use Rattle.distances.specs.Answered.{declared_by};
+ghost use Rattle.faults.specs.declared.call.CallFault.{CallFault as Fault};
 ghost use Rattle.forwarding.specs.Answers.{told, over_written, trace_answer, trace_bytes};
 ghost use Rattle.forwarding.specs.Refusals.{TraceAsked, TraceRefused};
 ghost use Rattle.packets.specs.Ways.{way};
 ghost use Rattle.packets.specs.WaysPlain.{AlwaysLeaves, LeavesFrom};
+ghost use Rattle.selection.specs.Laws.{AllDeclared};
 
 use crate::best_path::{best_declared, lowest_undeclared};
 use crate::hops::next_hop;
@@ -33,6 +35,7 @@ fn follow(
 ) -> Result<Option<Way>, CallFault>
     requires declared { router < length (declared_by distances.now).routers }
     requires room { 32 ≤ length met.old }
+    requires all { AllDeclared (declared_by distances.now).paths set }
     ensures value { result ≡ Ok (told (way plain (declared_by distances.now) set router)) }
     ensures bytes { met.new ≡ over_written (way plain (declared_by distances.now) set router) met.old }
 {
@@ -73,8 +76,8 @@ pub fn trace(
     ensures bytes { met.new ≡ trace_bytes (declared_by distances.now) set router met.old }
     ensures asked { OnOk result
         (TraceAsked (declared_by distances.now) set router (length met.old)) }
-    ensures refused { IfErr result
-        (TraceRefused (declared_by distances.now) set router (length met.old)) }
+    ensures refuses { (fault : Fault) → (result ≡ Err fault)
+        ↔ TraceRefused (declared_by distances.now) set router (length met.old) fault }
     ensures unchanged { OnErr result (met.new ≡ met.old) }
     ensures leaves { router < length (declared_by distances.now).routers → LeavesFrom plain (declared_by distances.now) set router }
     ensures however { AlwaysLeaves plain (declared_by distances.now) set }

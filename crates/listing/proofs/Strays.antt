@@ -1,10 +1,12 @@
 -- The paths that routers advertise and that are not declared. Assumes nothing.
-use Rattle.std.proofs.Common.{◌≡◌, ℕ, zero, suc, ◌<◌, Bool, true, false, ◌||◌, List, length, Some, inl, inr, sym, refl, ap, ◌∙◌, subst, arith}
-use Rattle.std.proofs.lemmas.Bool.{cases_Bool, cases_lt, both_ways}
+use Rattle.std.proofs.Common.{◌≡◌, ℕ, zero, suc, ◌<◌, Bool, true, false, ◌||◌, List, length, Some, Err, inl, inr, sym, refl, ap, ◌∙◌, subst, arith}
+use Rattle.std.proofs.lemmas.Bool.{cases_Bool, cases_lt, both_ways, cond-true, cond-false, lt-leb, le-leb}
 use Rattle.std.proofs.lemmas.Bool.Decides.{nat_tests}
-use Rattle.std.specs.Prelude.{bit_or}
+use Rattle.std.specs.Prelude.{◌↔◌, ◌⊎◌, bit_or}
+use Rattle.faults.specs.declared.call.CallFault.{CallFault}
+use Rattle.faults.specs.declared.call.CallFault.TheVariants.{UndeclaredPath, ShortBuffer}
 use Rattle.forwarding.specs.Answers.{unless_refused}
-use Rattle.forwarding.proofs.Refused.{answer_where_declared}
+use Rattle.forwarding.proofs.Refused.{answer_where_declared, refused_for_path, same_lowest}
 use Rattle.layout.specs.Promise.{Lowest}
 use Rattle.layout.specs.Table.{Declared}
 use Rattle.protocol.specs.Network.{set_of}
@@ -15,7 +17,7 @@ use Rattle.sets.specs.Members.{member}
 use Rattle.sets.proofs.Emptiness.{empty_zero}
 use Rattle.sets.proofs.Operations.{member_or}
 use Rattle.listing.specs.Listing.{list_answer, list_at, list_bytes, list_written, named_by}
-use Rattle.listing.specs.Refusals.{NoStray, Stray}
+use Rattle.listing.specs.Refusals.{ListRefused, NoStray, Stray}
 
 module _ (t : Declared) (advertised : List ℕ) where
   abbrev named : ℕ → ℕ
@@ -78,3 +80,37 @@ module _ (t : Declared) (advertised : List ℕ) where
   pub list_bytes_where_declared : NoStray t advertised → (before : List ℕ) → list_written t advertised before ≡ list_bytes t advertised before
   list_bytes_where_declared none before =
       ap (λ r. unless_refused r before (list_bytes t advertised before)) (list_where_declared none (length before)) ∙ grind (arith, nat_tests)
+
+  not_both : {X : Type 0} (p : ℕ) → Lowest (Stray t advertised) p → NoStray t advertised → X
+  not_both p low none = let stray = low.0 in absurd (omega (arith, none stray.0 stray.1 p stray.2.0, stray.2.1))
+
+  -- what a look at the sets found: the lowest path that is not declared, or that all of them are
+  abbrev pub Looked : Type 0
+  Looked = ((p : ℕ) × (lowest_undeclared t.paths (named (length t.routers)) ≡ Some p)) ⊎ NoStray t advertised
+
+  pub list_refuses : Looked → (room : ℕ) (fault : CallFault) → (list_answer t advertised room ≡ Err fault) ↔ ListRefused t advertised room fault
+  list_refuses (inl found) room fault =
+      let told : list_answer t advertised room ≡ Err (UndeclaredPath found.0) =
+      sym (refused_for_path t (named (length t.routers)) {o = lowest_undeclared t.paths (named (length t.routers))} refl found.1 (list_at t advertised room)) in
+      let low = lowest_stray found.0 found.1 in (
+        λ e. inl (found.0, low, (let same : Err (UndeclaredPath found.0) ≡ Err fault = sym told ∙ e in cc)),
+        λ h. elim h [
+          | inl why ↦ told ∙ ap (λ (q : ℕ). Err (UndeclaredPath q)) (same_lowest found.0 why.0 low why.1) ∙ ap (λ (f : CallFault). Err f) (sym why.2)
+          | inr why ↦ not_both found.0 low why.0
+        ],
+      )
+  list_refuses (inr none) room fault =
+      let told = list_where_declared none room in (
+        λ e. elim (cases_lt room 512) [
+          | inl short ↦
+              let is : Err fault ≡ Err (ShortBuffer 512) = sym e ∙ told ∙ cond-false _ _ _ (lt-leb 512 room short) in
+              inr (none, short, (cc))
+          | inr long ↦
+              let is = sym e ∙ told ∙ cond-true _ _ _ (le-leb 512 room long) in
+              absurd (let clash : ⊥ = cc in clash)
+        ],
+        λ h. elim h [
+          | inl why ↦ not_both why.0 why.1 none
+          | inr why ↦ told ∙ cond-false _ _ _ (lt-leb 512 room why.1) ∙ ap (λ (f : CallFault). Err f) (sym why.2)
+        ],
+      )

@@ -1,7 +1,7 @@
 -- When a list is refused, in the terms of an operator. Assumes nothing.
-use Rattle.std.specs.Prelude.{◌≡◌, ℕ, ◌<◌, ◌≤◌, List, length}
+use Rattle.std.specs.Prelude.{◌≡◌, ℕ, ◌<◌, ◌≤◌, ◌⊎◌, List, length}
 use Rattle.faults.specs.declared.call.CallFault.{CallFault}
-use Rattle.faults.specs.declared.call.CallFault.TheVariants.{Load, UndeclaredPath, UndeclaredRouter, NoRouterNamed, AlreadyInjected, NotInjected, ShortBuffer}
+use Rattle.faults.specs.declared.call.CallFault.TheVariants.{UndeclaredPath, ShortBuffer}
 use Rattle.layout.specs.Promise.{Lowest}
 use Rattle.layout.specs.Table.{Declared}
 use Rattle.protocol.specs.Network.{set_of}
@@ -22,12 +22,8 @@ module _ (t : Declared) (advertised : List ℕ) where
   abbrev pub ListAsked : ℕ → Type 0
   ListAsked room = NoStray × (512 ≤ room)
 
-  -- why it is refused: for the lowest such path, whatever the buffer; then for a buffer of fewer bytes
+  -- it is refused with this fault: at the lowest such path, whatever the buffer; then for a buffer of fewer bytes
   abbrev pub ListRefused : ℕ → CallFault → Type 0
-  ListRefused room (Load fault) = ⊥
-  ListRefused room (UndeclaredPath p) = Lowest Stray p
-  ListRefused room (UndeclaredRouter v) = ⊥
-  ListRefused room NoRouterNamed = ⊥
-  ListRefused room (AlreadyInjected p) = ⊥
-  ListRefused room (NotInjected p) = ⊥
-  ListRefused room (ShortBuffer needed) = NoStray × (room < 512) × (needed ≡ 512)
+  ListRefused room fault =
+      ((p : ℕ) × Lowest Stray p × (fault ≡ UndeclaredPath p))
+      ⊎ (NoStray × (room < 512) × (fault ≡ ShortBuffer 512))

@@ -1,7 +1,8 @@
-ghost use Rattle.std.specs.Prelude.{◌≡◌, ◌+◌, ◌<◌, ◌≤◌, ◌++◌, Ok, IfErr, IfOk, IfSome, OnErr, OnOk, length};
+ghost use Rattle.std.specs.Prelude.{◌≡◌, ◌+◌, ◌<◌, ◌≤◌, ◌++◌, ◌↔◌, Ok, Err, IfOk, IfSome, OnErr, OnOk, length};
 ghost use Rattle.arrayvec.specs.ArrayString.{array_string_len};
 ghost use Rattle.costs.specs.Cost.{plain};
 ghost use Rattle.distances.specs.Answered.{declared_by};
+ghost use Rattle.faults.specs.declared.call.CallFault.{CallFault as Fault};
 ghost use Rattle.listing.specs.Listing.{choice_text, line_of, list_answer, list_at, list_bytes, list_written, named_by};
 ghost use Rattle.listing.specs.Refusals.{ListAsked, ListRefused, NoStray};
 ghost use Rattle.packets.specs.Best.{best};
@@ -124,8 +125,8 @@ pub fn list(
         ≡ list_written (declared_by distances.now) advertised.now buffer.old }
     ensures asked { OnOk result
         (ListAsked (declared_by distances.now) advertised.now (length buffer.old)) }
-    ensures refused { IfErr result
-        (ListRefused (declared_by distances.now) advertised.now (length buffer.old)) }
+    ensures refuses { (fault : Fault) → (result ≡ Err fault)
+        ↔ ListRefused (declared_by distances.now) advertised.now (length buffer.old) fault }
     ensures unchanged { OnErr result (buffer.new ≡ buffer.old) }
     ensures short { IfOk result (λ n. n ≤ 512) }
 {

@@ -1,15 +1,25 @@
-use Rattle.std.proofs.Common.{◌≡◌, Err, ◌∙◌, refl, arith}
+use Rattle.std.proofs.Common.{◌≡◌, cond, length, Ok, Err, ◌∙◌, sym, refl, inl, inr, arith}
+use Rattle.std.specs.Prelude.{nat_le}
 use Rattle.std.proofs.lemmas.Grind.{common_steps}
-use Rattle.distances.specs.Answered.{declared_by, distances_from}
+use Rattle.distances.specs.Answered.{declared_by, distances_from, of_router}
 use Rattle.layout.proofs.Certain.{known_well_formed}
-use Rattle.forwarding.proofs.Refused.{lowest_told, no_room, no_router_told, traced}
+use Rattle.faults.specs.declared.call.CallFault.TheVariants.{ShortBuffer}
+use Rattle.costs.specs.Cost.{plain}
+use Rattle.packets.specs.Ways.{way}
+use Rattle.forwarding.specs.Answers.{told}
+use Rattle.forwarding.proofs.Refused.{no_room, no_router_told, refused_for_path, through, trace_refuses, traced}
 use Rattle.forwarding.proofs.Rows.{answered}
 use Rattle.forwarding.proofs.Traced.{leaves_here, leaves_always}
 use Rattle.forwarding.proofs.packet.trace.Goals as goal
 
-pub returns-in-Some-clause-refused : goal.returns-in-Some-clause-refused
-returns-in-Some-clause-refused c =
-    lowest_told (declared_by c.args.distances.now) c.args.set c.lowest_undeclared.ensures.value c.in-Some.is
+pub returns-in-Some-clause-refuses : goal.returns-in-Some-clause-refuses
+returns-in-Some-clause-refuses c fault =
+    let t = declared_by c.args.distances.now in
+    let v = c.args.router in
+    let s = c.args.set in
+    let room = length c.args.met.now in
+    through (refused_for_path t s c.lowest_undeclared.ensures.value c.in-Some.is (of_router t v (cond (nat_le 32 room) (Ok (told (way plain t s v))) (Err (ShortBuffer 32)))))
+    (trace_refuses t s (inl (c.in-Some.path, sym c.lowest_undeclared.ensures.value ∙ c.in-Some.is)) v room fault)
 
 pub returns-in-Some-clause-leaves : goal.returns-in-Some-clause-leaves
 returns-in-Some-clause-leaves c = leaves_here c.args.distances.now c.args.set c.args.router
@@ -26,7 +36,7 @@ returns-in_err-row c =
       value = end.0;
       bytes = end.1;
       asked = rw is tt;
-      refused = end.2;
+      refuses = λ fault. through end.0 (trace_refuses t c.args.set (inr c.in_default.ensures.none) c.args.router (length c.args.met.now) fault);
       unchanged = rw is refl;
       leaves = leaves_here c.args.distances.now c.args.set c.args.router;
       however = leaves_always c.args.distances.now c.args.set;
@@ -41,7 +51,7 @@ returns-then-met-lt-MOST_MET c =
       value = end.0;
       bytes = end.1;
       asked = tt;
-      refused = end.2;
+      refuses = λ fault. through end.0 (trace_refuses t c.args.set (inr c.in_default.ensures.none) c.args.router (length c.args.met.now) fault);
       unchanged = refl;
       leaves = leaves_here c.args.distances.now c.args.set c.args.router;
       however = leaves_always c.args.distances.now c.args.set;
@@ -59,10 +69,10 @@ returns c =
     let lt = (answered t c.args.router _ (distances_from t c.args.router) c.in_ok-row.ensures.value).0 in
     let end = traced t c.args.set c.in_default.ensures.none c.args.router c.args.met.now lt (omega (arith, c.if-met-lt-MOST_MET.false)) in
     record {
-      value = c.follow.ensures.value ∙ end.0;
-      bytes = c.follow.ensures.bytes ∙ end.1;
-      asked = rw c.follow.ensures.value end.2;
-      refused = rw c.follow.ensures.value tt;
+      value = c.follow.ensures.value ∙ end.0.0;
+      bytes = c.follow.ensures.bytes ∙ end.0.1;
+      asked = rw c.follow.ensures.value end.1;
+      refuses = λ fault. through (c.follow.ensures.value ∙ end.0.0) (trace_refuses t c.args.set (inr c.in_default.ensures.none) c.args.router (length c.args.met.now) fault);
       unchanged = rw c.follow.ensures.value tt;
       leaves = leaves_here c.args.distances.now c.args.set c.args.router;
       however = leaves_always c.args.distances.now c.args.set;
