@@ -123,8 +123,8 @@ module _ {kept : Keeping} {bytes : List ℕ} {turns : List Turn} (plays : Plays 
   unfolding after_all
   follows_of_calls =
       record {
-        first_told = λ front back p. ((behind kept bytes front back).turns, of_whole (λ (r : Run). r.turns) p.whole ∙ (on p).turns);
-        first_happened = λ front back p. ((behind kept bytes front back).moves, of_whole (λ (r : Run). r.moves) p.whole ∙ (on p).moves);
+        first_told = λ front back p. of_whole (λ (r : Run). r.turns) p.whole ∙ (on p).turns;
+        first_happened = λ front back p. of_whole (λ (r : Run). r.moves) p.whole ∙ (on p).moves;
         first_made = λ front back p. omega (arith, of_whole (λ (r : Run). r.made) p.whole, (on p).made);
         asked_last = λ front t q p asks.
             let w = world_of kept bytes front in
@@ -177,6 +177,9 @@ module _ {kept : Keeping} {bytes : List ℕ} {turns : List Turn} (plays : Plays 
   follows_of_moves =
       record {
         may_come = λ before later m whole. comes_at kept before m later begun (subst (AllCome kept begun) whole plays.comes);
+        well_formed = λ before later d whole. comes_at kept before (Loaded d) later begun (subst (AllCome kept begun) whole plays.comes);
+        injected_before = λ before later p whole. comes_at kept before (Withdrawn p) later begun (subst (AllCome kept begun) whole plays.comes);
+        declared_restart = λ before later v whole. comes_at kept before (Restarted v) later begun (subst (AllCome kept begun) whole plays.comes);
         injected_anew = λ before later p whole.
             let came = comes_at kept before (Injected p) later begun (subst (AllCome kept begun) whole plays.comes) in
             (came.0, both_ways _ came.1);
@@ -204,5 +207,5 @@ module _ {kept : Keeping} {bytes : List ℕ} {turns : List Turn} (plays : Plays 
             (stays.0, stays.1 v);
         all_leave = λ before later q v whole settled has below.
             let way = plays.rests.leaves before later whole settled q has v below in
-            (way.0, way.1, way.2, way.3.once);
+            (way.0, way.1, way.2, way.3.goes, way.3.once, way.3.cheap);
       }

@@ -2,7 +2,7 @@
 use Rattle.std.proofs.Common.{◌≡◌, ℕ, ◌≤◌, ◌⊎◌, true, All, List, replicate, Result, [], ◌∷◌, ◌++◌, length, take, drop, get_or, Some, None, Ok, Err, Option, sym, refl, ap, ◌∙◌, subst, inl, inr, arith}
 use Rattle.std.proofs.lemmas.Bool.{both_ways}
 use Rattle.std.proofs.lemmas.List.{get_or_at, length-take-le, length-take, length-drop}
-use Rattle.std.proofs.lemmas.List.Elements.{All-nil, All-cons, All-head, All-tail}
+use Rattle.std.proofs.lemmas.List.Elements.{All-nil, All-cons, All-head, All-tail, All-weaker}
 use Rattle.costs.specs.Cost.{plain}
 use Rattle.faults.specs.declared.call.CallFault.{CallFault}
 use Rattle.faults.specs.declared.call.CallFault.TheVariants.{Load as load_fault, NoRouterNamed}
@@ -19,17 +19,18 @@ use Rattle.sets.specs.Members.{Empty}
 use Rattle.sets.proofs.Digits.{member_none}
 use Rattle.protocol.specs.Network.{State, set_of}
 use Rattle.protocol.specs.Packets.{best_of}
-use Rattle.protocol.specs.Alters.{Becomes}
-use Rattle.protocol.specs.Moves.{one_by_one, all_of}
+use Rattle.protocol.specs.Alters.{Begins, Becomes}
+use Rattle.protocol.specs.Moves.{Move, one_by_one, all_of}
 use Rattle.protocol.specs.Settled.{Round, Rounds}
-use Rattle.protocol.proofs.Resting.{one_by_one_round}
+use Rattle.protocol.proofs.Resting.{one_by_one_round, all_of_rounds}
 use Rattle.protocol.proofs.Stretches.{round_in_front}
 use Rattle.calls.specs.Calls.{Coming, coming, loading_by, answered}
-use Rattle.calls.specs.Follows.{LeavesNetwork, AnswersDone, WritesNothing, Place, turn_then, world_then, network_then, Midst, FollowsOfTurns, FollowsOfRest, Follows}
-use Rattle.calls.specs.History.{Told, Accepts}
+use Rattle.calls.specs.Follows.{LeavesNetwork, AnswersDone, WritesNothing, ChangesNone, NoChange, Makes, Place, turn_then, world_then, network_then, Midst, FollowsOfTurns, FollowsOfRest, Follows}
+use Rattle.calls.specs.History.{Told, Accepts, Changes, IsMove}
 use Rattle.calls.specs.Promise.{world_of, network_of, behind, Refuses, NotRefused, Does, Shown, Unaltered, Rounded, Plays}
 use Rattle.calls.specs.Rounds.{step_by, steps_by, steps_in}
 use Rattle.calls.specs.Turns.{World, part_of, with_part, offered, bytes_after, answer_to}
+use Rattle.calls.specs.declared.action.Action.{Action}
 use Rattle.calls.specs.declared.action.Action.TheVariants.{Load, Inject, Withdraw, Restart, Step}
 use Rattle.calls.specs.declared.answer.Answer.{Answer}
 use Rattle.calls.specs.declared.answer.Answer.TheVariants.{Done, Best as best_answer, Metric as metric_answer, Paths, Settled as settled_answer, Way as way_answer, Written, Refused}
@@ -113,6 +114,27 @@ step_is n w t h =
     ap (λ (c : Call). steps_by n c t.outcome) h.0
     ∙ ap (λ (o : Option Outcome). steps_by n (Act (Step w)) o) h.1.1
     ∙ ap (step_by w) h.1.2
+
+-- what changes nothing, or is refused, tells of no change
+no_change : (t : Turn) → NoChange t → Changes t → ⊥
+no_change t (inl none) (inl loads) = subst ChangesNone loads.1.0 none
+no_change t (inl none) (inr (inl injects)) = subst ChangesNone injects.1.0 none
+no_change t (inl none) (inr (inr (inl withdraws))) = subst ChangesNone withdraws.1.0 none
+no_change t (inl none) (inr (inr (inr restarts))) = subst ChangesNone restarts.1.0 none
+no_change t (inr refused) (inl loads) = let e = told_one _ _ t loads.1.1 refused.1 in let clash : ⊥ = cc in clash
+no_change t (inr refused) (inr (inl injects)) = let e = told_one _ _ t injects.1.1 refused.1 in let clash : ⊥ = cc in clash
+no_change t (inr refused) (inr (inr (inl withdraws))) = let e = told_one _ _ t withdraws.1.1 refused.1 in let clash : ⊥ = cc in clash
+no_change t (inr refused) (inr (inr (inr restarts))) = let e = told_one _ _ t restarts.1.1 refused.1 in let clash : ⊥ = cc in clash
+
+-- an accepted action makes what its move makes
+makes : (kept : Keeping) (s x : State) (a : Action) (m : Move) → IsMove a m → Becomes kept s x m → Makes kept s x a
+makes kept s x (Load read) m is becomes =
+    let begins = subst (Becomes kept s x) is.2 becomes in
+    subst (λ (d : Declared). Begins d x) (sym begins.table) begins
+makes kept s x (Inject p) m is becomes = subst (Becomes kept s x) is becomes
+makes kept s x (Withdraw p) m is becomes = subst (Becomes kept s x) is becomes
+makes kept s x (Restart v) m is becomes = subst (Becomes kept s x) is becomes
+makes kept s x (Step w) m is becomes = subst (Becomes kept s x) is becomes
 
 steps_counted : (n w : ℕ) (ts : List Turn) → All (Accepts (Step w)) ts → steps_in n ts ≡ replicate (length ts) w
 steps_counted n w [] each = refl
@@ -209,7 +231,7 @@ module _ {kept : Keeping} {bytes : List ℕ} {turns : List Turn} (plays : Plays 
             let asks : t.call ≡ Act a = sym shown.call ∙ accepted.0 in
             let is_done = answer_is front t shown Done accepted.1 in
             let did = subst (λ (c : Call). Does kept (network_of kept bytes front) c (network_then kept bytes turns front t)) asks (shown.does (λ fault e. let clash : ⊥ = cc in clash)) in
-            did;
+            makes kept (network_of kept bytes front) (network_then kept bytes turns front t) a did.0 did.1 did.2;
         loaded = λ front t read p accepted.
             let shown = shown_at front t p in
             let asks : t.call ≡ Act (Load read) = sym shown.call ∙ accepted.0 in
@@ -239,7 +261,7 @@ module _ {kept : Keeping} {bytes : List ℕ} {turns : List Turn} (plays : Plays 
       }
 
   rounded : (front ts : List Turn) → Midst kept bytes turns front ts → Rounded kept (network_of kept bytes front) (network_of kept bytes (front ++ ts)) (behind kept bytes front ts).turns
-  rounded front ts p = plays.rounds front ts p.back p.whole p.made p.none
+  rounded front ts p = plays.rounds front ts p.back p.whole p.made (All-weaker NoChange (λ (t : Turn). Changes t → ⊥) no_change (behind kept bytes front ts).turns p.none)
 
   -- a trace that tells of a way, or of none, was not refused
   taken : (front : List Turn) (t : Turn) (shown : ShownAt front t) → ((fault : CallFault) → Told (Refused fault) (turn_then kept bytes turns front t) → ⊥) → NotRefused kept bytes front t
@@ -255,6 +277,12 @@ module _ {kept : Keeping} {bytes : List ℕ} {turns : List Turn} (plays : Plays 
         six_steps = λ front ts w p steps all.
             let n = length (network_of kept bytes front).table.routers in
             (rounded front ts p).settles (subst (Rounds n 6) (sym steps) (all_rounds n w 6 all));
+        six_by_one = λ front ts p steps.
+            let n = length (network_of kept bytes front).table.routers in
+            (rounded front ts p).settles (subst (Rounds n 6) (sym steps) (all_of_rounds n 6));
+        quiet_by_one = λ front ts p steps same.
+            let n = length (network_of kept bytes front).table.routers in
+            (rounded front ts p).quiet (subst (Round n) (sym steps) (one_by_one_round n)) same;
         quiet_call = λ front ts w p steps all same.
             let n = length (network_of kept bytes front).table.routers in
             (rounded front ts p).quiet (subst (Round n) (sym steps) (all_named n w [] all)) same;
@@ -304,6 +332,7 @@ module _ {kept : Keeping} {bytes : List ℕ} {turns : List Turn} (plays : Plays 
               count,
               traces.leaves.once,
               subst (λ (x : Way). Leaves plain w.network.table (best_of w.network) v traces.met x.path) is traces.leaves,
+              traces.leaves.cheap,
               bytes_are ∙ ap (λ (n : ℕ). with_part w.bytes part ((v ∷ traces.met) ++ drop n before)) count,
               ap (λ (b : List ℕ). get_or b part.start d) bytes_are ∙ first_byte w.bytes part v d (traces.met ++ drop (length (v ∷ traces.met)) before) fits.1,
             );

@@ -1,8 +1,8 @@
 -- What follows for an operator from the promise of a run. Each is drawn from `Plays` alone, so that
 -- no field of it can be dropped or emptied unnoticed.
-use Rattle.std.specs.Prelude.{◌≡◌, ℕ, ◌<◌, ◌≤◌, ◌↔◌, true, false, List, [], ◌∷◌, ◌++◌, All, length, drop, replicate, Some, None, Ok, IsTrue, slice_index_or}
+use Rattle.std.specs.Prelude.{◌≡◌, ℕ, ◌<◌, ◌≤◌, ◌⊎◌, ◌↔◌, true, false, List, [], ◌∷◌, ◌++◌, All, length, drop, replicate, Some, None, Ok, IsTrue, slice_index_or}
 use Rattle.std.specs.Borrow.{Bor}
-use Rattle.costs.specs.Cost.{plain}
+use Rattle.costs.specs.Cost.{plain, AtMost}
 use Rattle.costs.specs.Once.{Once}
 use Rattle.faults.specs.declared.call.CallFault.{CallFault}
 use Rattle.faults.specs.Faults.{place_of}
@@ -14,12 +14,12 @@ use Rattle.layout.specs.Promise.{Broken}
 use Rattle.layout.specs.Reading.{table_in}
 use Rattle.layout.specs.Table.{Declared, nothing}
 use Rattle.layout.specs.WellFormed.{WellFormed}
-use Rattle.packets.specs.Best.{exit_of}
+use Rattle.packets.specs.Best.{exit_of, metric}
 use Rattle.packets.specs.BestPlain.{Best as BestPath}
-use Rattle.packets.specs.WaysPlain.{Leaves}
+use Rattle.packets.specs.WaysPlain.{links_cost, Way as PacketWay, Leaves}
 use Rattle.selection.specs.Laws.{Keeping, Offered}
 use Rattle.sets.specs.Members.{member, Empty}
-use Rattle.protocol.specs.Alters.{HasInjected, Knows, Becomes}
+use Rattle.protocol.specs.Alters.{HasInjected, Knows, Begins, Becomes}
 use Rattle.protocol.specs.Moves.{Move, begun, one_by_one, all_of}
 use Rattle.protocol.specs.Moves.Move.{Loaded, Injected, Withdrawn, Restarted, Activated}
 use Rattle.protocol.specs.Network.{State, set_of}
@@ -27,13 +27,13 @@ use Rattle.protocol.specs.Packets.{best_of, way_of}
 use Rattle.protocol.specs.Plain.{Learns}
 use Rattle.protocol.specs.Runs.{Comes, reached}
 use Rattle.protocol.specs.Settled.{Settled, stretch}
-use Rattle.calls.specs.History.{Told, Accepts, Loads, Changes, IsMove}
+use Rattle.calls.specs.History.{Told, Accepts, Loads}
 use Rattle.calls.specs.Calls.{at_rest, reply, report_answer, report_bytes}
-use Rattle.calls.specs.Promise.{run_of, world_of, network_of, AllMade, behind, Refuses, turn_of, Unaltered}
+use Rattle.calls.specs.Promise.{run_of, world_of, network_of, behind, Refuses, turn_of, Unaltered}
 use Rattle.calls.specs.Rounds.{steps_in}
 use Rattle.calls.specs.Turns.{World, part_of, with_part, offered}
 use Rattle.calls.specs.declared.action.Action.{Action}
-use Rattle.calls.specs.declared.action.Action.TheVariants.{Load, Inject, Withdraw, Step}
+use Rattle.calls.specs.declared.action.Action.TheVariants.{Load, Inject, Withdraw, Restart, Step}
 use Rattle.calls.specs.declared.answer.Answer.TheVariants.{Done, Best as best_answer, Settled as settled_answer, Way as way_answer, Refused}
 use Rattle.calls.specs.declared.call.Call.{Call}
 use Rattle.calls.specs.declared.call.Call.TheVariants.{Act, Settle, Reopen, Ask, Report}
@@ -93,6 +93,35 @@ AnswersDone Reopen = Unit
 AnswersDone (Ask q) = ⊥
 AnswersDone (Report r part) = ⊥
 
+-- a call that changes nothing, or that was refused: no table, path or restart comes by it
+abbrev pub ChangesNone : Call → Type 0
+ChangesNone (Act (Load read)) = ⊥
+ChangesNone (Act (Inject p)) = ⊥
+ChangesNone (Act (Withdraw p)) = ⊥
+ChangesNone (Act (Restart v)) = ⊥
+ChangesNone (Act (Step w)) = Unit
+ChangesNone Settle = Unit
+ChangesNone Reopen = Unit
+ChangesNone (Ask q) = Unit
+ChangesNone (Report r part) = Unit
+
+abbrev pub NoChange : Turn → Type 0
+NoChange t = ChangesNone t.call ⊎ ((fault : CallFault) × Told (Refused fault) t)
+
+-- what an accepted action makes of network s: it becomes x
+abbrev pub Makes : Keeping → State → State → Action → Type 0
+Makes kept s x (Load read) = Begins x.table x
+Makes kept s x (Inject p) = Becomes kept s x (Injected p)
+Makes kept s x (Withdraw p) = Becomes kept s x (Withdrawn p)
+Makes kept s x (Restart v) = Becomes kept s x (Restarted v)
+Makes kept s x (Step w) = Becomes kept s x (Activated w)
+
+-- the links of a packet's way from router v over these others cost no more than the metric of v's path
+abbrev pub Cheap : State → ℕ → List ℕ → Type 0
+Cheap s v met =
+    (p : ℕ) → best_of s v ≡ Some p →
+    AtMost plain (links_cost plain s.table v met) (metric plain s.table v p)
+
 -- a call that writes nothing: any but a report
 abbrev pub WritesNothing : Call → Type 0
 WritesNothing (Act a) = Unit
@@ -106,13 +135,13 @@ module _ (kept : Keeping) (bytes : List ℕ) (turns : List Turn) where
   -- the turns are those in front and those behind, and the calls in front were all made
   pub record Parts (front back : List Turn) : Type 0 where
     pub whole : turns ≡ front ++ back
-    pub made : AllMade kept bytes front
+    pub made : (run_of kept bytes front).made ≡ length front
 
   -- this call was made, behind the calls in front
   pub record Place (front : List Turn) (t : Turn) : Type 0 where
     pub back : List Turn
     pub whole : turns ≡ front ++ (t ∷ back)
-    pub made : AllMade kept bytes front
+    pub made : (run_of kept bytes front).made ≡ length front
     pub offers : offered (world_of kept bytes front).settled t.call ≡ true
 
   -- its turn, as it stands at the end, and where it left the run
@@ -153,13 +182,14 @@ module _ (kept : Keeping) (bytes : List ℕ) (turns : List Turn) where
 
   -- of the calls one behind the other
   pub record FollowsOfCalls : Type 0 where
-    -- what was told of the first calls stays, and what happened by them happened first
+    -- what was told of the first calls stays, and what happened by them happened first; behind it
+    -- stands what the calls behind them tell, and what happens by those
     pub first_told :
         (front back : List Turn) → Parts front back →
-        (later : List Turn) × (told_of turns ≡ told_of front ++ later)
+        told_of turns ≡ told_of front ++ (behind kept bytes front back).turns
     pub first_happened :
         (front back : List Turn) → Parts front back →
-        (later : List Move) × (happened turns ≡ happened front ++ later)
+        happened turns ≡ happened front ++ (behind kept bytes front back).moves
     pub first_made :
         (front back : List Turn) → Parts front back → length front ≤ (run_of kept bytes turns).made
     -- a question behind them tells one turn more, and nothing happens by it
@@ -209,6 +239,15 @@ module _ (kept : Keeping) (bytes : List ℕ) (turns : List Turn) where
     pub may_come :
         (before later : List Move) (m : Move) → Happens before (m ∷ []) later →
         Comes (so_far before) m
+    pub well_formed :
+        (before later : List Move) (d : Declared) → Happens before (Loaded d ∷ []) later →
+        WellFormed d
+    pub injected_before :
+        (before later : List Move) (p : ℕ) → Happens before (Withdrawn p ∷ []) later →
+        HasInjected (so_far before) p
+    pub declared_restart :
+        (before later : List Move) (v : ℕ) → Happens before (Restarted v ∷ []) later →
+        v < length (so_far before).table.routers
     pub injected_anew :
         (before later : List Move) (p : ℕ) → Happens before (Injected p ∷ []) later →
         (p < length (so_far before).table.paths)
@@ -269,7 +308,9 @@ module _ (kept : Keeping) (bytes : List ℕ) (turns : List Turn) where
         (met : List ℕ)
         × (path : ℕ)
         × (way_of (so_far before) v ≡ Some (v ∷ met, path))
+        × PacketWay plain (so_far before).table (best_of (so_far before)) v met path
         × Once (v ∷ met)
+        × Cheap (so_far before) v met
 
   -- of what a call does and its turn tells
   pub record FollowsOfTurns : Type 0 where
@@ -334,9 +375,7 @@ module _ (kept : Keeping) (bytes : List ℕ) (turns : List Turn) where
     pub acted :
         (front : List Turn) (t : Turn) (a : Action) → Place front t →
         Accepts a (turn_then front t) →
-        (m : Move)
-        × IsMove a m
-        × Becomes kept (network_of kept bytes front) (network_then front t) m
+        Makes kept (network_of kept bytes front) (network_then front t) a
     -- a load is told as done exactly if its bytes are the encoding of a well-formed table, which the
     -- network has then; a refused one names what is wrong with them
     pub loaded :
@@ -368,29 +407,40 @@ module _ (kept : Keeping) (bytes : List ℕ) (turns : List Turn) where
   pub record Midst (front ts : List Turn) : Type 0 where
     pub back : List Turn
     pub whole : turns ≡ front ++ (ts ++ back)
-    pub made : AllMade kept bytes (front ++ ts)
-    pub none : All (λ t. Changes t → ⊥) (behind kept bytes front ts).turns
+    pub made : (run_of kept bytes (front ++ ts)).made ≡ length (front ++ ts)
+    pub none : All NoChange (behind kept bytes front ts).turns
 
-  -- these calls make so many steps of the routers of set w, and no other step
-  abbrev pub MakeSteps : List Turn → List Turn → ℕ → ℕ → Type 0
-  MakeSteps front ts w count =
+  -- these calls make steps of these sets of routers, one behind the other, and no other step
+  abbrev pub MakeSteps : List Turn → List Turn → List ℕ → Type 0
+  MakeSteps front ts ws =
       steps_in (length (network_of kept bytes front).table.routers) (behind kept bytes front ts).turns
-      ≡ replicate count w
+      ≡ ws
 
   -- of steps that are called, and of what is told of best paths and of packets
   pub record FollowsOfRest : Type 0 where
     -- each accepted step is counted
     pub counted :
         (n w : ℕ) (ts : List Turn) → All (Accepts (Step w)) ts → steps_in n ts ≡ replicate (length ts) w
-    -- six steps of all routers settle the network
+    -- six steps of all routers settle the network, and so do six rounds of one router a step,
+    -- whichever calls that change nothing stand between them
     pub six_steps :
-        (front ts : List Turn) (w : ℕ) → Midst front ts → MakeSteps front ts w 6 →
+        (front ts : List Turn) (w : ℕ) → Midst front ts → MakeSteps front ts (replicate 6 w) →
         NamesAll (network_of kept bytes front) w →
         Settled kept (network_of kept bytes (front ++ ts))
-    -- one, or a settle, by which no advertised set is told to be altered shows that it was settled
+    pub six_by_one :
+        (front ts : List Turn) → Midst front ts →
+        MakeSteps front ts (all_of (length (network_of kept bytes front).table.routers) 6) →
+        Settled kept (network_of kept bytes (front ++ ts))
+    -- one such step or round, or a settle, by which no advertised set is told to be altered shows
+    -- that the network was settled
     pub quiet_call :
-        (front ts : List Turn) (w : ℕ) → Midst front ts → MakeSteps front ts w 1 →
+        (front ts : List Turn) (w : ℕ) → Midst front ts → MakeSteps front ts (w ∷ []) →
         NamesAll (network_of kept bytes front) w →
+        Unaltered (network_of kept bytes front).advertised (behind kept bytes front ts).turns →
+        Settled kept (network_of kept bytes front)
+    pub quiet_by_one :
+        (front ts : List Turn) → Midst front ts →
+        MakeSteps front ts (one_by_one (length (network_of kept bytes front).table.routers)) →
         Unaltered (network_of kept bytes front).advertised (behind kept bytes front ts).turns →
         Settled kept (network_of kept bytes front)
     pub quiet_settle :
@@ -438,6 +488,7 @@ module _ (kept : Keeping) (bytes : List ℕ) (turns : List Turn) where
         × (length (v ∷ met) ≡ way.count)
         × Once (v ∷ met)
         × Leaves plain w.network.table (best_of w.network) v met way.path
+        × Cheap w.network v met
         × ((world_then front t).bytes
         ≡ with_part w.bytes part ((v ∷ met) ++ drop way.count (part_of w.bytes part)))
         × (slice_index_or (world_then front t).bytes part.start d ≡ v)
