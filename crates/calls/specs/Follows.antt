@@ -1,5 +1,5 @@
 -- What follows for an operator from the promise of a run. Each is drawn from `Plays` alone, so that
--- no field of it can be dropped or emptied unnoticed.
+-- a field of it that was dropped, or said nothing, would be missed here.
 use Rattle.std.specs.Prelude.{◌≡◌, ℕ, ◌<◌, ◌≤◌, ◌⊎◌, ◌↔◌, true, false, List, [], ◌∷◌, ◌++◌, All, length, drop, replicate, Some, None, Ok, IsTrue, slice_index_or}
 use Rattle.std.specs.Borrow.{Bor}
 use Rattle.costs.specs.Cost.{plain, AtMost}
@@ -93,7 +93,7 @@ AnswersDone Reopen = Unit
 AnswersDone (Ask q) = ⊥
 AnswersDone (Report r part) = ⊥
 
--- a call that changes nothing, or that was refused: no table, path or restart comes by it
+-- a call by which no table and no path comes or goes, and no router restarts
 abbrev pub ChangesNone : Call → Type 0
 ChangesNone (Act (Load read)) = ⊥
 ChangesNone (Act (Inject p)) = ⊥
@@ -105,6 +105,7 @@ ChangesNone Reopen = Unit
 ChangesNone (Ask q) = Unit
 ChangesNone (Report r part) = Unit
 
+-- a turn that tells of no change: of such a call, or of a refusal
 abbrev pub NoChange : Turn → Type 0
 NoChange t = ChangesNone t.call ⊎ ((fault : CallFault) × Told (Refused fault) t)
 

@@ -1,4 +1,4 @@
-ghost use Rattle.std.specs.Prelude.{◌≡◌, ℕ, ◌<◌, ◌↔◌, if◌then◌else◌, length, Ok, Err, OnOk, nat_lt};
+ghost use Rattle.std.specs.Prelude.{◌≡◌, ℕ, ◌<◌, ◌↔◌, if◌then◌else◌, length, Ok, Err, OnErr, OnOk, nat_lt};
 ghost use Rattle.faults.specs.declared.call.CallFault.{CallFault as Fault};
 ghost use Rattle.faults.specs.declared.call.CallFault.TheVariants.{UndeclaredPath};
 ghost use Rattle.layout.specs.Promise.{Reads};
@@ -117,6 +117,7 @@ impl<R: Rule> Running<R> {
         ensures reads { Reads bytes.now (table_in bytes.now) }
         ensures refuses { (fault : Fault) →
             (result ≡ Err fault) ↔ RefusesAction (state_of self.old) (Load bytes.entry) fault }
+        ensures unchanged { OnErr result (state_of self.new ≡ state_of self.old) }
         ensures rule { rule_of self.new ≡ rule_of self.old }
     {
         let table = Table::read(bytes)?;
@@ -138,6 +139,7 @@ impl<R: Rule> Running<R> {
             (state_of self.old) (state_of self.new) (Injected path)) }
         ensures refuses { (fault : Fault) →
             (result ≡ Err fault) ↔ RefusesAction (state_of self.old) (Inject path) fault }
+        ensures unchanged { OnErr result (state_of self.new ≡ state_of self.old) }
         ensures rule { rule_of self.new ≡ rule_of self.old }
     {
         let router = self.exit_point(path)?;
@@ -160,6 +162,7 @@ impl<R: Rule> Running<R> {
             (state_of self.old) (state_of self.new) (Withdrawn path)) }
         ensures refuses { (fault : Fault) →
             (result ≡ Err fault) ↔ RefusesAction (state_of self.old) (Withdraw path) fault }
+        ensures unchanged { OnErr result (state_of self.new ≡ state_of self.old) }
         ensures rule { rule_of self.new ≡ rule_of self.old }
     {
         let router = self.exit_point(path)?;
@@ -182,6 +185,7 @@ impl<R: Rule> Running<R> {
             (state_of self.old) (state_of self.new) (Restarted router)) }
         ensures refuses { (fault : Fault) →
             (result ≡ Err fault) ↔ RefusesAction (state_of self.old) (Restart router) fault }
+        ensures unchanged { OnErr result (state_of self.new ≡ state_of self.old) }
         ensures rule { rule_of self.new ≡ rule_of self.old }
     {
         let own = self.own(router)?;
@@ -199,6 +203,7 @@ impl<R: Rule> Running<R> {
         ensures typed { TypedAction action.entry }
         ensures refuses { (fault : Fault) →
             (result ≡ Err fault) ↔ RefusesAction (state_of self.old) action.entry fault }
+        ensures unchanged { OnErr result (state_of self.new ≡ state_of self.old) }
         ensures rule { rule_of self.new ≡ rule_of self.old }
     {
         match action {

@@ -1,4 +1,4 @@
-ghost use Rattle.std.specs.Prelude.{◌≡◌, ◌≤◌, ◌↔◌, Err, OnOk, length};
+ghost use Rattle.std.specs.Prelude.{◌≡◌, ◌≤◌, ◌↔◌, Err, OnErr, OnOk, length};
 ghost use Rattle.faults.specs.declared.call.CallFault.{CallFault as Fault};
 ghost use Rattle.protocol.specs.Alters.{Becomes};
 ghost use Rattle.protocol.specs.Consistent.{Declares};
@@ -72,6 +72,7 @@ impl<R: Rule> Running<R> {
             (state_of self.old) (state_of self.new) (Activated named)) }
         ensures refuses { (fault : Fault) →
             (result ≡ Err fault) ↔ RefusesAction (state_of self.old) (Step named) fault }
+        ensures unchanged { OnErr result (state_of self.new ≡ state_of self.old) }
         ensures rule { rule_of self.new ≡ rule_of self.old }
     {
         self.step_of(RouterSet::from(named))
