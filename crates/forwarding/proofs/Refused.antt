@@ -143,7 +143,7 @@ module _ (t : Declared) (s : ℕ) where
       let low = undeclared_lowest t.paths s found.0 found.1 in (
         λ e. inl (inl (says.0 e)),
         λ h. elim h [
-          | inl why ↦ elim why [ | inl at ↦ says.1 at | inr at ↦ not_both found.0 low at.0 ]
+          | inl why ↦ elim why [ inl at ↦ says.1 at | inr at ↦ not_both found.0 low at.0 ]
           | inr why ↦ not_both found.0 low why.0.0
         ],
       )
