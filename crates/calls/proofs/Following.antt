@@ -125,7 +125,8 @@ module _ {kept : Keeping} {bytes : List ℕ} {turns : List Turn} (plays : Plays 
       record {
         first_told = λ front back p. of_whole (λ (r : Run). r.turns) p.whole ∙ (on p).turns;
         first_happened = λ front back p. of_whole (λ (r : Run). r.moves) p.whole ∙ (on p).moves;
-        first_made = λ front back p. omega (arith, of_whole (λ (r : Run). r.made) p.whole, (on p).made);
+        first_made = λ front back p. of_whole (λ (r : Run). r.made) p.whole ∙ (on p).made;
+        first_left = λ front back p. of_whole (λ (r : Run). r.world) p.whole ∙ (on p).world;
         asked_last = λ front t q p asks.
             let w = world_of kept bytes front in
             let one = asked w t (ap (offered w.settled) asks) in

@@ -1,8 +1,10 @@
 -- What follows from the promise of a run, of what a turn tells and of networks at rest.
-use Rattle.std.proofs.Common.{◌≡◌, ℕ, ◌≤◌, ◌⊎◌, true, All, List, replicate, Result, [], ◌∷◌, ◌++◌, length, take, drop, get_or, Some, None, Ok, Err, Option, sym, refl, ap, ◌∙◌, subst, inl, inr, arith}
+use Rattle.std.proofs.Common.{◌≡◌, ℕ, ◌≤◌, ◌⊎◌, true, All, List, Result, [], ◌∷◌, ◌++◌, length, take, drop, get_or, Some, None, Ok, Err, Option, sym, refl, ap, ◌∙◌, subst, inl, inr, arith}
 use Rattle.std.proofs.lemmas.Bool.{both_ways}
-use Rattle.std.proofs.lemmas.List.{get_or_at, length-take-le, length-take, length-drop}
-use Rattle.std.proofs.lemmas.List.Elements.{All-nil, All-cons, All-head, All-tail, All-weaker}
+use Rattle.std.proofs.lemmas.List.Concat.{flat_map-append}
+use Rattle.std.specs.List.{flat_map}
+use Rattle.std.proofs.lemmas.List.{append-nil, get_or_at, length-take-le, length-take, length-drop}
+use Rattle.std.proofs.lemmas.List.Elements.{All-head, All-tail, All-weaker}
 use Rattle.costs.specs.Cost.{plain}
 use Rattle.faults.specs.declared.call.CallFault.{CallFault}
 use Rattle.faults.specs.declared.call.CallFault.TheVariants.{Load as load_fault, NoRouterNamed}
@@ -19,15 +21,14 @@ use Rattle.sets.specs.Members.{Empty}
 use Rattle.sets.proofs.Digits.{member_none}
 use Rattle.protocol.specs.Network.{State, set_of}
 use Rattle.protocol.specs.Packets.{best_of}
-use Rattle.protocol.specs.Alters.{Begins, Becomes}
-use Rattle.protocol.specs.Moves.{Move, one_by_one, all_of}
+use Rattle.protocol.specs.Alters.{Becomes}
+use Rattle.protocol.specs.Moves.{Move, all_of}
 use Rattle.protocol.specs.Settled.{Round, Rounds}
-use Rattle.protocol.proofs.Resting.{one_by_one_round, all_of_rounds}
-use Rattle.protocol.proofs.Stretches.{round_in_front}
+use Rattle.protocol.specs.Settled.Rounds.{begins, then}
 use Rattle.calls.specs.Calls.{Coming, coming, loading_by, answered}
 use Rattle.calls.specs.Follows.{LeavesNetwork, AnswersDone, WritesNothing, ChangesNone, NoChange, Makes, Place, turn_then, world_then, network_then, Midst, FollowsOfTurns, FollowsOfRest, Follows}
 use Rattle.calls.specs.History.{Told, Accepts, Changes, IsMove}
-use Rattle.calls.specs.Promise.{world_of, network_of, behind, Refuses, NotRefused, Does, Shown, Unaltered, Rounded, Plays}
+use Rattle.calls.specs.Promise.{world_of, network_of, behind, Refuses, NotRefused, Does, Shown, Rounded, Plays}
 use Rattle.calls.specs.Rounds.{step_by, steps_by, steps_in}
 use Rattle.calls.specs.Turns.{World, part_of, with_part, offered, bytes_after, answer_to}
 use Rattle.calls.specs.declared.action.Action.{Action}
@@ -41,7 +42,7 @@ use Rattle.calls.specs.declared.report.Part.{Part}
 use Rattle.calls.specs.declared.report.Report.TheVariants.{Trace, List as list_report}
 use Rattle.calls.specs.declared.turn.Outcome.{Outcome}
 use Rattle.calls.specs.declared.turn.Turn.{Turn}
-use Rattle.calls.proofs.Following.{all_at, all_named, all_rounds, follows_of_calls, follows_of_moves}
+use Rattle.calls.proofs.Following.{all_at, all_rounds, follows_of_calls, follows_of_moves}
 use Rattle.calls.proofs.Tracing.{not_refused}
 
 -- a turn tells one answer
@@ -129,30 +130,44 @@ no_change t (inr refused) (inr (inr (inr restarts))) = let e = told_one _ _ t re
 -- an accepted action makes what its move makes
 makes : (kept : Keeping) (s x : State) (a : Action) (m : Move) → IsMove a m → Becomes kept s x m → Makes kept s x a
 makes kept s x (Load read) m is becomes =
-    let begins = subst (Becomes kept s x) is.2 becomes in
-    subst (λ (d : Declared). Begins d x) (sym begins.table) begins
+    (is.0, is.1, subst (Becomes kept s x) is.2 becomes)
 makes kept s x (Inject p) m is becomes = subst (Becomes kept s x) is becomes
 makes kept s x (Withdraw p) m is becomes = subst (Becomes kept s x) is becomes
 makes kept s x (Restart v) m is becomes = subst (Becomes kept s x) is becomes
 makes kept s x (Step w) m is becomes = subst (Becomes kept s x) is becomes
 
-steps_counted : (n w : ℕ) (ts : List Turn) → All (Accepts (Step w)) ts → steps_in n ts ≡ replicate (length ts) w
-steps_counted n w [] each = refl
-steps_counted n w (t ∷ ts) each =
-    ap (λ (ws : List ℕ). ws ++ steps_in n ts) (step_is n w t (All-head (Accepts (Step w)) t ts each))
-    ∙ ap (λ (ws : List ℕ). w ∷ ws) (steps_counted n w ts (All-tail (Accepts (Step w)) t ts each))
+-- a settle makes the steps of seven rounds, and what only looks makes none
+settle_is : (n : ℕ) (t : Turn) (o : Outcome) → t.call ≡ Settle → t.outcome ≡ Some o → steps_by n t.call t.outcome ≡ all_of n 7
+settle_is n t o asks made = ap (λ (c : Call). steps_by n c t.outcome) asks ∙ ap (λ (x : Option Outcome). steps_by n Settle x) made
 
-one_unaltered : (advertised : List ℕ) (t : Turn) (o : Outcome) → t.outcome ≡ Some o → o.advertised ≡ advertised → Unaltered advertised (t ∷ [])
-one_unaltered advertised t o made same =
-    All-cons (λ (u : Turn). (x : Outcome) → u.outcome ≡ Some x → x.advertised ≡ advertised) t []
-    (λ x is. let one : o ≡ x = (let e = made in let f = is in cc) in ap (λ (y : Outcome). y.advertised) (sym one) ∙ same) (All-nil _)
+looks_none : (n : ℕ) (call : Call) (o : Option Outcome) → LeavesNetwork call → steps_by n call o ≡ []
+looks_none n (Act a) o h = absurd h
+looks_none n Settle o h = absurd h
+looks_none n Reopen o h = refl
+looks_none n (Ask q) o h = refl
+looks_none n (Report r part) o h = refl
 
--- a settle names every router
-settle_round : (n : ℕ) (t : Turn) (o : Outcome) → t.call ≡ Settle → t.outcome ≡ Some o → Round n (steps_in n (t ∷ []))
-unfolding all_of
-settle_round n t o asks made =
-    let steps : steps_by n t.call t.outcome ≡ all_of n 7 = ap (λ (c : Call). steps_by n c t.outcome) asks ∙ ap (λ (x : Option Outcome). steps_by n Settle x) made in
-    subst (λ (ws : List ℕ). Round n (ws ++ [])) (sym steps) (round_in_front n (all_of n 7) [] (round_in_front n (one_by_one n) (all_of n 6) (one_by_one_round n)))
+-- nor does a refused action
+refused_none : (n : ℕ) (a : Action) (o : Outcome) (fault : CallFault) → o.answer ≡ Refused fault → steps_by n (Act a) (Some o) ≡ []
+refused_none n (Load read) o fault told = refl
+refused_none n (Inject p) o fault told = refl
+refused_none n (Withdraw p) o fault told = refl
+refused_none n (Restart v) o fault told = refl
+refused_none n (Step w) o fault told = ap (step_by w) told
+
+refused_is : (n : ℕ) (t : Turn) (a : Action) (fault : CallFault) → t.call ≡ Act a → Told (Refused fault) t → steps_by n t.call t.outcome ≡ []
+refused_is n t a fault asks told =
+    ap (λ (c : Call). steps_by n c t.outcome) asks ∙ ap (λ (x : Option Outcome). steps_by n (Act a) x) told.1 ∙ refused_none n a told.0 fault told.2
+
+-- the steps of one turn
+steps_alone : (n : ℕ) (t : Turn) {ws : List ℕ} → steps_by n t.call t.outcome ≡ ws → steps_in n (t ∷ []) ≡ ws
+steps_alone n t {ws} is = ap (λ (us : List ℕ). us ++ []) is ∙ append-nil ws
+
+-- rounds, one behind the other
+rounds_of : (n : ℕ) (rounds : List (List ℕ)) → All (Round n) rounds → Rounds n (length rounds) (flat_map (λ ws. ws) rounds)
+rounds_of n [] each = begins []
+rounds_of n (ws ∷ more) each =
+    then ws (flat_map (λ us. us) more) (length more) (All-head (Round n) ws more each) (rounds_of n more (All-tail (Round n) ws more each))
 
 -- the byte where a part begins that has some bytes
 first_byte : (bytes : List ℕ) (part : Part) (v d : ℕ) (new : List ℕ) → 32 ≤ length (part_of bytes part) → get_or (with_part bytes part (v ∷ new)) part.start d ≡ v
@@ -273,25 +288,20 @@ module _ {kept : Keeping} {bytes : List ℕ} {turns : List Turn} (plays : Plays 
   pub follows_of_rest : FollowsOfRest kept bytes turns
   follows_of_rest =
       record {
-        counted = steps_counted;
+        counted_apart = λ n ts us. flat_map-append (λ (t : Turn). steps_by n t.call t.outcome) ts us;
+        step_counted = λ n w t accepted. steps_alone n t (step_is n w t accepted);
+        settle_counted = λ n t o asks made. steps_alone n t (settle_is n t o asks made);
+        refused_uncounted = λ n t a fault asks told. steps_alone n t (refused_is n t a fault asks told);
+        looks_uncounted = λ n t looks. steps_alone n t (looks_none n t.call t.outcome looks);
+        six_called = λ front ts rounds p steps six each.
+            let n = length (network_of kept bytes front).table.routers in
+            (rounded front ts p).settles (subst (Rounds n 6) (sym steps) (subst (λ (k : ℕ). Rounds n k (flat_map (λ ws. ws) rounds)) six (rounds_of n rounds each)));
         six_steps = λ front ts w p steps all.
             let n = length (network_of kept bytes front).table.routers in
             (rounded front ts p).settles (subst (Rounds n 6) (sym steps) (all_rounds n w 6 all));
-        six_by_one = λ front ts p steps.
+        quiet_called = λ front ts ws p steps round same.
             let n = length (network_of kept bytes front).table.routers in
-            (rounded front ts p).settles (subst (Rounds n 6) (sym steps) (all_of_rounds n 6));
-        quiet_by_one = λ front ts p steps same.
-            let n = length (network_of kept bytes front).table.routers in
-            (rounded front ts p).quiet (subst (Round n) (sym steps) (one_by_one_round n)) same;
-        quiet_call = λ front ts w p steps all same.
-            let n = length (network_of kept bytes front).table.routers in
-            (rounded front ts p).quiet (subst (Round n) (sym steps) (all_named n w [] all)) same;
-        quiet_settle = λ front ts t o p is asks made same.
-            let s = network_of kept bytes front in
-            let n = length s.table.routers in
-            (rounded front ts p).quiet
-            (subst (λ (us : List Turn). Round n (steps_in n us)) (sym is) (settle_round n t o asks made))
-            (subst (Unaltered s.advertised) (sym is) (one_unaltered s.advertised t o made same));
+            (rounded front ts p).quiet (subst (Round n) (sym steps) round) same;
         none_altered = λ front ts before later t o p settled is made.
             let alike = λ (u : Turn). (x : Outcome) → u.outcome ≡ Some x → x.advertised ≡ (network_of kept bytes front).advertised in
             all_at alike before t later (subst (All alike) is ((rounded front ts p).stays settled)) o made;

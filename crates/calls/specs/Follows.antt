@@ -1,7 +1,8 @@
 -- What follows for an operator from the promise of a run. Each is drawn from `Plays` alone, so that
 -- a field of it that was dropped, or said nothing, would be missed here.
-use Rattle.std.specs.Prelude.{◌≡◌, ℕ, ◌<◌, ◌≤◌, ◌⊎◌, ◌↔◌, true, false, List, [], ◌∷◌, ◌++◌, All, length, drop, replicate, Some, None, Ok, IsTrue, slice_index_or}
+use Rattle.std.specs.Prelude.{◌≡◌, ℕ, ◌+◌, ◌<◌, ◌≤◌, ◌⊎◌, ◌↔◌, true, false, List, [], ◌∷◌, ◌++◌, All, length, drop, replicate, Some, None, Ok, IsTrue, slice_index_or}
 use Rattle.std.specs.Borrow.{Bor}
+use Rattle.std.specs.List.{flat_map}
 use Rattle.costs.specs.Cost.{plain, AtMost}
 use Rattle.costs.specs.Once.{Once}
 use Rattle.faults.specs.declared.call.CallFault.{CallFault}
@@ -26,7 +27,7 @@ use Rattle.protocol.specs.Network.{State, set_of}
 use Rattle.protocol.specs.Packets.{best_of, way_of}
 use Rattle.protocol.specs.Plain.{Learns}
 use Rattle.protocol.specs.Runs.{Comes, reached}
-use Rattle.protocol.specs.Settled.{Settled, stretch}
+use Rattle.protocol.specs.Settled.{Settled, stretch, named}
 use Rattle.calls.specs.History.{Told, Accepts, Loads}
 use Rattle.calls.specs.Calls.{at_rest, reply, report_answer, report_bytes}
 use Rattle.calls.specs.Promise.{run_of, world_of, network_of, behind, Refuses, turn_of, Unaltered}
@@ -57,6 +58,10 @@ Sees s x (Activated w) =
 -- every router of network s is in the set
 abbrev pub NamesAll : State → ℕ → Type 0
 NamesAll s w = (v : ℕ) → v < length s.table.routers → IsTrue (member w v)
+
+-- some set names each router of network s
+abbrev pub IsRound : State → List ℕ → Type 0
+IsRound s ws = (v : ℕ) → v < length s.table.routers → IsTrue (named ws v)
 
 -- a set for each of 32 router numbers
 abbrev pub HasAllSets : State → Type 0
@@ -109,9 +114,9 @@ ChangesNone (Report r part) = Unit
 abbrev pub NoChange : Turn → Type 0
 NoChange t = ChangesNone t.call ⊎ ((fault : CallFault) × Told (Refused fault) t)
 
--- what an accepted action makes of network s: it becomes x
+-- network x is what this accepted action makes of network s
 abbrev pub Makes : Keeping → State → State → Action → Type 0
-Makes kept s x (Load read) = Begins x.table x
+Makes kept s x (Load read) = (d : Declared) × (table_in read.now ≡ Ok d) × Begins d x
 Makes kept s x (Inject p) = Becomes kept s x (Injected p)
 Makes kept s x (Withdraw p) = Becomes kept s x (Withdrawn p)
 Makes kept s x (Restart v) = Becomes kept s x (Restarted v)
@@ -192,7 +197,11 @@ module _ (kept : Keeping) (bytes : List ℕ) (turns : List Turn) where
         (front back : List Turn) → Parts front back →
         happened turns ≡ happened front ++ (behind kept bytes front back).moves
     pub first_made :
-        (front back : List Turn) → Parts front back → length front ≤ (run_of kept bytes turns).made
+        (front back : List Turn) → Parts front back →
+        (run_of kept bytes turns).made ≡ length front + (behind kept bytes front back).made
+    pub first_left :
+        (front back : List Turn) → Parts front back →
+        world_of kept bytes turns ≡ (behind kept bytes front back).world
     -- a question behind them tells one turn more, and nothing happens by it
     pub asked_last :
         (front : List Turn) (t : Turn) (q : Question) → Parts front (t ∷ []) → t.call ≡ Ask q →
@@ -235,8 +244,8 @@ module _ (kept : Keeping) (bytes : List ℕ) (turns : List Turn) where
 
   -- of what happened to the network
   pub record FollowsOfMoves : Type 0 where
-    -- only what may come came: every path that was injected was declared and was not injected yet,
-    -- every step named declared routers only, and so on
+    -- only what may come came: well-formed tables, declared paths not yet injected, withdrawals of
+    -- injected ones, restarts and steps of declared routers
     pub may_come :
         (before later : List Move) (m : Move) → Happens before (m ∷ []) later →
         Comes (so_far before) m
@@ -332,7 +341,8 @@ module _ (kept : Keeping) (bytes : List ℕ) (turns : List Turn) where
     pub settled_told :
         (front : List Turn) (t : Turn) → Place front t → t.call ≡ Ask whether_settled →
         Told (settled_answer true) (turn_then front t) ↔ Settled kept (network_of kept bytes front)
-    -- the test by which that is told holds of no other network, made or not what is behind it
+    -- the test by which that is told holds of settled networks and no others, also where not all calls
+    -- in front were made
     pub tested :
         (front back : List Turn) → turns ≡ front ++ back →
         IsTrue (at_rest kept (network_of kept bytes front)) ↔ Settled kept (network_of kept bytes front)
@@ -419,35 +429,35 @@ module _ (kept : Keeping) (bytes : List ℕ) (turns : List Turn) where
 
   -- of steps that are called, and of what is told of best paths and of packets
   pub record FollowsOfRest : Type 0 where
-    -- each accepted step is counted
-    pub counted :
-        (n w : ℕ) (ts : List Turn) → All (Accepts (Step w)) ts → steps_in n ts ≡ replicate (length ts) w
-    -- six steps of all routers settle the network, and so do six rounds of one router a step,
-    -- whichever calls that change nothing stand between them
+    -- of calls one behind the other the steps are counted one behind the other: an accepted step
+    -- counts once, a settle as seven rounds of one router a step, and a refused action, a question, a
+    -- report and a reopening as none
+    pub counted_apart :
+        (n : ℕ) (ts us : List Turn) → steps_in n (ts ++ us) ≡ steps_in n ts ++ steps_in n us
+    pub step_counted : (n w : ℕ) (t : Turn) → Accepts (Step w) t → steps_in n (t ∷ []) ≡ w ∷ []
+    pub settle_counted :
+        (n : ℕ) (t : Turn) (o : Outcome) → t.call ≡ Settle → t.outcome ≡ Some o →
+        steps_in n (t ∷ []) ≡ all_of n 7
+    pub refused_uncounted :
+        (n : ℕ) (t : Turn) (a : Action) (fault : CallFault) → t.call ≡ Act a → Told (Refused fault) t →
+        steps_in n (t ∷ []) ≡ []
+    pub looks_uncounted : (n : ℕ) (t : Turn) → LeavesNetwork t.call → steps_in n (t ∷ []) ≡ []
+    -- six rounds settle the network, whichever routers step together and in whatever order; so do six
+    -- steps of all routers
+    pub six_called :
+        (front ts : List Turn) (rounds : List (List ℕ)) → Midst front ts →
+        MakeSteps front ts (flat_map (λ ws. ws) rounds) → length rounds ≡ 6 →
+        All (IsRound (network_of kept bytes front)) rounds →
+        Settled kept (network_of kept bytes (front ++ ts))
     pub six_steps :
         (front ts : List Turn) (w : ℕ) → Midst front ts → MakeSteps front ts (replicate 6 w) →
         NamesAll (network_of kept bytes front) w →
         Settled kept (network_of kept bytes (front ++ ts))
-    pub six_by_one :
-        (front ts : List Turn) → Midst front ts →
-        MakeSteps front ts (all_of (length (network_of kept bytes front).table.routers) 6) →
-        Settled kept (network_of kept bytes (front ++ ts))
-    -- one such step or round, or a settle, by which no advertised set is told to be altered shows
-    -- that the network was settled
-    pub quiet_call :
-        (front ts : List Turn) (w : ℕ) → Midst front ts → MakeSteps front ts (w ∷ []) →
-        NamesAll (network_of kept bytes front) w →
+    -- a round by which no advertised set is told to be altered shows that the network was settled
+    pub quiet_called :
+        (front ts : List Turn) (ws : List ℕ) → Midst front ts → MakeSteps front ts ws →
+        IsRound (network_of kept bytes front) ws →
         Unaltered (network_of kept bytes front).advertised (behind kept bytes front ts).turns →
-        Settled kept (network_of kept bytes front)
-    pub quiet_by_one :
-        (front ts : List Turn) → Midst front ts →
-        MakeSteps front ts (one_by_one (length (network_of kept bytes front).table.routers)) →
-        Unaltered (network_of kept bytes front).advertised (behind kept bytes front ts).turns →
-        Settled kept (network_of kept bytes front)
-    pub quiet_settle :
-        (front ts : List Turn) (t : Turn) (o : Outcome) → Midst front ts →
-        (behind kept bytes front ts).turns ≡ t ∷ [] → t.call ≡ Settle → t.outcome ≡ Some o →
-        o.advertised ≡ (network_of kept bytes front).advertised →
         Settled kept (network_of kept bytes front)
     -- and where it was settled, no call but a change is told to alter one
     pub none_altered :

@@ -64,8 +64,8 @@ pub(crate) fn best_declared(
         return Ok(None);
     };
     let mut lowest = rank(router, row, paths[first as usize]);
-    // The lower numbers come before the higher, so of equal ranks the first one stays. With `get`, which finds every path of the
-    // set, the compiler leaves a branch here that is seldom taken, and is quicker than without.
+    // The lower numbers come before the higher, so of equal ranks the first one stays. `get` finds every path of the set; with it
+    // the compiler makes the comparison a branch, which is seldom taken, and the loop is quicker than with an index.
     for p in set.without(first) {
         if let Some(path) = paths.get(p as usize) {
             let rank = rank(router, row, *path);

@@ -22,7 +22,8 @@ module _ (t : Declared) (advertised : List ℕ) where
   abbrev pub ListAsked : ℕ → Type 0
   ListAsked room = NoStray × (512 ≤ room)
 
-  -- it is refused with this fault: at the lowest such path, whatever the buffer; then for a buffer of fewer bytes
+  -- it is refused with this fault: at the lowest path that some router advertises and that is not declared, whatever the buffer; then
+  -- for a buffer of fewer bytes
   abbrev pub ListRefused : ℕ → CallFault → Type 0
   ListRefused room fault =
       ((p : ℕ) × Lowest Stray p × (fault ≡ UndeclaredPath p))

@@ -112,8 +112,8 @@ fn write_lines(
     Ok(bytes.len())
 }
 
-// A line for each router, in the order of their numbers: its number, its best path of the declared paths that it advertises,
-// and that path's metric. The lines go into the buffer, and bytes past them stay as they were; answers how many bytes they are.
+// A line for each router, in the order of their numbers: its number, its best path of those that it advertises, and that path's
+// metric. The lines go into the buffer, and bytes past them stay as they were; answers how many bytes they are.
 pub fn list(
     distances: &Distances,
     advertised: &[PathSet; 32],

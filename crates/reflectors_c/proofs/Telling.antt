@@ -43,7 +43,6 @@ module _ (bs : List ℕ) (injected : ℕ) (before after : List ℕ) (answer : �
       leaves = λ refused. tells.leaves;
       number = subst (λ n. (n ≤ 11) ⊎ (n ≡ 16)) (sym number) tells.numbers;
       place = near;
-      small = omega (arith, near);
       table = λ refused few.
           let load = telling.load (omega (arith, number, few)) in (
             load.0,
@@ -70,7 +69,6 @@ module _ (bs : List ℕ) (injected : ℕ) (before after : List ℕ) (answer : �
     leaves = λ refused. absurd (refused number);
     number = inl (omega (arith, number));
     place = near;
-    small = omega (arith, number, near);
     table = λ refused few. absurd (refused number);
     path = λ is. absurd (omega (arith, number, is));
     buffer = λ is. absurd (omega (arith, number, is));

@@ -24,7 +24,6 @@ pub record HostTells (bs : List ℕ) (injected : ℕ) (before after : List ℕ) 
   -- the answer is a number up to 11, or 16, and 256 times a place within the longest table
   pub number : (answer % 256 ≤ 11) ⊎ (answer % 256 ≡ 16)
   pub place : answer / 256 ≤ 2272
-  pub small : answer < 256 * 2273
   -- up to number 10 that is what is wrong with the table
   pub table :
       answer % 256 ≢ 0 → answer % 256 ≤ 10 →

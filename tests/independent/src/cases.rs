@@ -1,6 +1,6 @@
 //! Lines for the program `cases`, and what it prints for each. What is kept of a set, which paths
-//! routers take and what is refused is as the pages say, and how a line looks as in
-//! crates/cases/stdout. Lines with calls on a network stand last there, and are none of these.
+//! routers take, which way a packet goes and what is refused is as the pages say, and how a line
+//! looks as in crates/cases/stdout. Lines with calls on a network stand last there, and are none of these.
 
 use crate::direct::{LEAST_BUFFER, SHORT_BUFFER, UNDECLARED_PATH};
 use crate::distances::Distances;

@@ -68,7 +68,7 @@ impl<R: Rule> Running<R> {
         advertised.copied().unwrap_or_default()
     }
 
-    /// The best path of a router of what it advertises; none where it advertises nothing, and where the network is settled just
+    /// The best path of a router of what it advertises; none where it advertises nothing, which in a settled network is so just
     /// where nothing is injected. Refused with 12 where the router is not declared.
     pub fn best(&self, router: u32) -> Result<Option<u8>, CallFault>
         ensures value { result ≡ best_at (state_of self.now) router }
