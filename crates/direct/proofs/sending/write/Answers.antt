@@ -1,4 +1,4 @@
-use Rattle.std.proofs.Common.{rules, ◌≡◌, ℕ, suc, slice_set, List, ◌+◌, ◌++◌, ◌∷◌, [], take, map, Ok, sym, ap, ◌∙◌, arith}
+use Rattle.std.proofs.Common.{rules, ◌≡◌, ℕ, suc, slice_set, List, ◌+◌, ◌++◌, ◌∷◌, [], take, map, Ok, Err, sym, ap, ◌∙◌, arith}
 use Rattle.std.proofs.Math.Seq.{take-suc-set}
 use Rattle.std.proofs.lemmas.Bool.Decides.{nat_tests}
 use Rattle.std.proofs.lemmas.List.FromFn.{map-range_with_len_more}
@@ -28,3 +28,11 @@ loop-router-preserved c =
           ∙ ap (λ x. map byte (range_with_len 0 v) ++ x ∷ []) written
           ∙ sym (map-range_with_len_more byte 0 v v (omega arith)),
     )
+
+-- the router is declared and so are all paths of the set, so no best path is refused
+pub returns-in_err-best : goal.returns-in_err-best
+returns-in_err-best c =
+    let t = declared_by c.args.distances.now in
+    let v = c.loop-router.router in
+    let told : Err c.in_err-best.field-0.0 ≡ of_router t v (Ok (best plain t c.args.set v)) = c.in_err-best.ensures.value ∙ best_where_declared t c.args.set c.requires.all v in
+    absurd (let clash : ⊥ = grind (arith, nat_tests, told) in clash)
