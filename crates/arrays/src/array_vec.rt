@@ -51,7 +51,8 @@ impl<T: Copy, const N: usize> ArrayVec<T, N> {
 
     // Whether there are `N` already.
     pub fn is_full(&self) -> bool
-        ensures { IsTrue result ↔ (N ≤ length self.now) }
+        ensures value { IsTrue result ↔ (N ≤ length self.now) }
+        ensures fits { length self.now ≤ N }
     {
         self.len >= N
     }
@@ -61,6 +62,7 @@ impl<T: Copy, const N: usize> ArrayVec<T, N> {
         ensures room { IsOk result ↔ (length self.old < N) }
         ensures ok { OnOk result (self.new ≡ self.old ++ x ∷ []) }
         ensures err { OnErr result (self.new ≡ self.old) }
+        ensures fits { length self.new ≤ N }
     {
         if self.is_full() {
             return Err(Full);

@@ -125,9 +125,9 @@ enum Asked<'a> {
 }
 
 // How many of each kind a table declares, and the last of each.
-fn records(rt: &impl Print, table: &Table) -> anyhow::Result<()> {
+fn records(rt: &impl Print, name: &str, table: &Table) -> anyhow::Result<()> {
     println!(rt;
-        " {} routers, {} links, {} sessions, {} paths",
+        "{name}: {} routers, {} links, {} sessions, {} paths",
         table.routers().len(),
         table.links().len(),
         table.sessions().len(),
@@ -144,39 +144,43 @@ fn keeps(rt: &impl Print, paths: &[ExitPath], set: PathSet) -> anyhow::Result<()
 }
 
 fn play(rt: &HostRuntime, name: &str, bytes: &[u8], asked: Asked) -> anyhow::Result<()> {
-    print!(rt; "{name}:")?;
     let table = match Table::read(bytes) {
         Ok(table) => table,
         Err(fault) => {
-            println!(rt; " {} at {}", fault.number(), fault.place())?;
+            println!(rt; "{name}: {} at {}", fault.number(), fault.place())?;
             return Ok(());
         }
     };
+    // The name goes out with what follows on its line, in one write.
     match asked {
-        Asked::Records => records(rt, &table),
+        Asked::Records => records(rt, name, &table),
         Asked::Rules(set) => {
-            println!(rt; "")?;
+            println!(rt; "{name}:")?;
             keeps(rt, table.paths(), set)
         }
         Asked::Ways(set) => {
-            println!(rt; "")?;
+            println!(rt; "{name}:")?;
             ways(rt, table, set)
         }
         Asked::Calls(calls) => {
-            println!(rt; "")?;
+            println!(rt; "{name}:")?;
             runs(rt, bytes, table.routers().len() as u32, calls)
         }
     }
 }
 
-// The set whose word a text spells in eight bytes, the highest first.
-fn set(heap: Global, text: &str) -> anyhow::Result<PathSet> {
-    let bytes = spelled(heap, text)?.context("a set that spells no bytes")?;
-    let word = bytes
-        .as_slice()
-        .as_array()
-        .context("a set that is not eight bytes")?;
-    Ok(PathSet::from(u64::from_be_bytes(*word)))
+// The set whose word a text spells in eight bytes, the highest first; none where it spells anything else.
+fn set(heap: Global, text: &str) -> Result<Option<PathSet>, AllocError> {
+    let Some(bytes) = spelled(heap, text)? else {
+        return Ok(None);
+    };
+    let word = bytes.as_slice().as_array().copied();
+    Ok(word.map(|word| PathSet::from(u64::from_be_bytes(word))))
+}
+
+// The set that a line asks about.
+fn asked_set(heap: Global, text: &str) -> anyhow::Result<PathSet> {
+    set(heap, text)?.context("a line whose set is not eight bytes")
 }
 
 // A line is a name, a colon and the bytes; where rules are asked, a semicolon and a set; where ways are asked, an
@@ -184,9 +188,9 @@ fn set(heap: Global, text: &str) -> anyhow::Result<PathSet> {
 fn line(rt: &HostRuntime, text: &str) -> anyhow::Result<()> {
     let (name, rest) = text.split_once(':').context("a line without a colon")?;
     let (table, asked) = if let Some((table, word)) = rest.split_once(';') {
-        (table, Asked::Rules(set(rt.alloc(), word)?))
+        (table, Asked::Rules(asked_set(rt.alloc(), word)?))
     } else if let Some((table, word)) = rest.split_once('>') {
-        (table, Asked::Ways(set(rt.alloc(), word)?))
+        (table, Asked::Ways(asked_set(rt.alloc(), word)?))
     } else if let Some((table, calls)) = rest.split_once('!') {
         (table, Asked::Calls(calls))
     } else {
