@@ -37,7 +37,9 @@ fn along(distances: &Distances, link: Link, from: u32, towards: u32, whole: u32)
 }
 
 // The next hop from one router towards another: the lowest-numbered router that a link joins to the first,
-// and from which the rest of the distance is that distance but for the link. None from a router to itself.
+// and from which the rest of the distance is that distance but for the link. None from a router to itself. Inlined: what is
+// refused then costs no more than the test.
+#[inline]
 pub fn next_hop(distances: &Distances, from: u32, towards: u32) -> Result<Option<u8>, CallFault>
     ensures value { result ≡ hop_answer (declared_by distances.now) from towards }
     ensures plain { IfOk result (HopIs plain (declared_by distances.now) from towards) }
